@@ -1,0 +1,13 @@
+// Tables, expressions and their meaning.
+#![tactic(auto)]
+
+pub mod column;
+pub mod error;
+pub mod examples;
+pub mod expr;
+pub mod frame;
+pub mod functions;
+pub mod laws;
+pub mod refusal;
+pub mod schema;
+pub mod value;

@@ -1,0 +1,139 @@
+// The names and kinds of a table's columns.
+ghost use Rattle.std.specs.Prelude.{◌≡◌, ◌<◌, ◌↔◌, ◌++◌, ◌∷◌, [], length, slice_get, take, IsTrue, IsFalse, IfOk, OnOk, OnErr, IsErrAnd, IfErr, Err, option_map, IsNone, IsSome};
+ghost use Rattle.ps_frame.specs.Frames.{has_name};
+ghost use Rattle.ps_frame.specs.Tables.{field_index};
+
+use crate::error::FrameError;
+use crate::value::DataType;
+use pu_order::PlSmallStr;
+use std::alloc::{AllocError, Global};
+use std::marker::Model;
+
+/// Names, which differ, with their kinds.
+#[derive(Drop)]
+pub struct Schema {
+    fields: Vec<(PlSmallStr, DataType)>,
+}
+
+impl Model for Schema {
+    ghost use Rattle.std.specs.Prelude.{IsTrue, List, ℕ};
+    ghost use Rattle.ps_frame.specs.declared.value.DataType.{DataType};
+    ghost use Rattle.ps_frame.specs.Frames.{has_distinct_names};
+
+    ghost Value = { List (List ℕ × DataType) };
+
+    ghost view = { λ a. a.fields.items };
+
+    ghost invariant = { λ a. IsTrue (has_distinct_names a.fields.items) };
+}
+
+impl Schema {
+    pub fn new(alloc: Global) -> Schema
+        ensures { result ≡ [] }
+    {
+        Schema {
+            fields: Vec::new(alloc),
+        }
+    }
+
+    pub fn len(&self) -> usize
+        ensures { result ≡ length self.now }
+    {
+        self.fields.len()
+    }
+
+    pub fn name(&self, i: usize) -> &PlSmallStr
+        requires { i < length self.now }
+        ensures { option_map (λ f. f.0) (slice_get self.now i) ≡ Some result.now }
+    {
+        &self.fields[i].0
+    }
+
+    pub fn kind(&self, i: usize) -> DataType
+        requires { i < length self.now }
+        ensures { option_map (λ f. f.1) (slice_get self.now i) ≡ Some result }
+    {
+        self.fields[i].1
+    }
+
+    pub fn index_of(&self, name: &str) -> Option<usize>
+        ensures { result ≡ field_index name.now self.now }
+    {
+        self.fields.iter().position(|f| f.0.eq_str(name))
+    }
+
+    /// Whether a name stands.
+    pub fn contains(&self, name: &str) -> bool
+        ensures { result ≡ has_name name.now self.now }
+    {
+        self.fields.iter().any(|f| f.0.eq_str(name))
+    }
+
+    /// One more field. Its name must not stand yet.
+    pub fn push(&mut self, name: PlSmallStr, dtype: DataType) -> Result<(), FrameError>
+        ensures added { OnOk result (self.new ≡ self.old ++ (name, dtype) ∷ []) }
+        ensures duplicate { (result ≡ Err (FrameError.Duplicate name)) ↔ IsTrue (has_name name self.old) }
+        ensures unchanged { OnErr result (self.new ≡ self.old) }
+    {
+        if self.contains(name.as_str()) {
+            return Err(FrameError::Duplicate { name });
+        }
+        self.append(name, dtype)?;
+        Ok(())
+    }
+
+    fn append(&mut self, name: PlSmallStr, dtype: DataType) -> Result<(), AllocError>
+        requires { IsFalse (has_name name self.old) }
+        ensures added { OnOk result (self.new ≡ self.old ++ (name, dtype) ∷ []) }
+        ensures unchanged { OnErr result (self.new ≡ self.old) }
+    {
+        self.fields.push((name, dtype))?;
+        Ok(())
+    }
+
+    pub fn try_clone(&self, alloc: Global) -> Result<Schema, FrameError>
+        ensures same { IfOk result (λ s. s ≡ self.now) }
+        ensures memory { OnErr result (result ≡ Err FrameError.OutOfMemory) }
+    {
+        let fields = clone_fields(alloc, self.fields.as_slice())?;
+        Ok(Schema { fields })
+    }
+
+    /// Whether two schemas have the same names with the same kinds.
+    pub fn same(&self, other: &Schema) -> bool
+        ensures { IsTrue result ↔ (self.now ≡ other.now) }
+    {
+        same_fields(self.fields.as_slice(), other.fields.as_slice())
+    }
+}
+
+fn clone_fields(
+    alloc: Global,
+    fields: &[(PlSmallStr, DataType)],
+) -> Result<Vec<(PlSmallStr, DataType)>, FrameError>
+    ensures same { IfOk result (λ copy. copy.items ≡ fields.now) }
+    ensures memory { OnErr result (result ≡ Err FrameError.OutOfMemory) }
+{
+    let mut copy = Vec::new(alloc);
+    for field in fields {
+        let Ok(name) = field.0.try_clone(alloc) else {
+            return Err(FrameError::OutOfMemory);
+        };
+        copy.push((name, field.1))?;
+    }
+    Ok(copy)
+}
+
+fn same_fields(a: &[(PlSmallStr, DataType)], b: &[(PlSmallStr, DataType)]) -> bool
+    ensures { IsTrue result ↔ (a.now ≡ b.now) }
+{
+    if a.len() != b.len() {
+        return false;
+    }
+    for i in 0..a.len() {
+        if !a[i].0.eq_str(b[i].0.as_str()) || a[i].1 != b[i].1 {
+            return false;
+        }
+    }
+    true
+}

@@ -1,0 +1,96 @@
+// Kinds, values, faults and cells.
+use pu_order::PlSmallStr;
+
+/// The kind of a column.
+#[derive(Clone, Copy, Debug, PartialEq, Eq)]
+pub enum DataType {
+    Boolean,
+    Int64,
+    IdxSize,
+    String,
+}
+
+/// One value; every kind has null.
+#[derive(Drop)]
+pub enum Value {
+    Null,
+    Boolean(bool),
+    Int64(i64),
+    IdxSize(u32),
+    String(PlSmallStr),
+}
+
+/// What went wrong with data.
+#[derive(Clone, Copy, Debug, PartialEq, Eq)]
+pub enum DataFault {
+    StrictCast,
+    SliceBound,
+    Function,
+    Shape,
+    RowIndex,
+    Gather,
+    Rows,
+}
+
+/// A value, or a fault in its place.
+#[derive(Drop)]
+pub enum Cell {
+    Val(Value),
+    Bad(DataFault),
+}
+
+/// The column that an expression gives.
+#[derive(Drop)]
+pub struct Evaluated {
+    pub dtype: DataType,
+    pub cells: Vec<Cell>,
+    pub broken: Vec<DataFault>,
+}
+
+ghost use Rattle.std.specs.Prelude.{◌≡◌, IfOk, OnErr, Err};
+ghost use Rattle.ps_frame.specs.Values.{fits_kind};
+ghost use Rattle.ps_frame.specs.Typed.{all_fit};
+
+use crate::error::FrameError;
+use std::alloc::Global;
+
+impl Value {
+    /// Whether the value may stand in a column of this kind.
+    pub fn fits(&self, dtype: DataType) -> bool
+        ensures { result ≡ fits_kind dtype self.now }
+    {
+        match self {
+            Value::Null => true,
+            Value::Boolean(_) => dtype == DataType::Boolean,
+            Value::Int64(_) => dtype == DataType::Int64,
+            Value::IdxSize(_) => dtype == DataType::IdxSize,
+            Value::String(_) => dtype == DataType::String,
+        }
+    }
+
+    /// An equal value.
+    ///
+    /// Fails only for want of memory.
+    pub fn try_clone(&self, alloc: Global) -> Result<Value, FrameError>
+        ensures same { IfOk result (λ v. v ≡ self.now) }
+        ensures memory { OnErr result (result ≡ Err FrameError.OutOfMemory) }
+    {
+        match self {
+            Value::Null => Ok(Value::Null),
+            Value::Boolean(b) => Ok(Value::Boolean(*b)),
+            Value::Int64(z) => Ok(Value::Int64(*z)),
+            Value::IdxSize(n) => Ok(Value::IdxSize(*n)),
+            Value::String(s) => match s.try_clone(alloc) {
+                Ok(copy) => Ok(Value::String(copy)),
+                Err(_) => Err(FrameError::OutOfMemory),
+            },
+        }
+    }
+}
+
+/// Whether each value may stand in a column of this kind.
+pub fn all_fit_kind(values: &[Value], dtype: DataType) -> bool
+    ensures { result ≡ all_fit dtype values.now }
+{
+    values.iter().all(|v| v.fits(dtype))
+}

@@ -1,0 +1,12 @@
+pub mod SmallCases
+pub mod Arenas
+pub mod CacheRow
+pub mod Doubling
+pub mod ExprRows
+pub mod JoinRow
+pub mod LoweringLemmas
+pub mod NoOthers
+pub mod Once
+pub mod Rows
+pub mod Unfolding
+pub mod WithinLemmas

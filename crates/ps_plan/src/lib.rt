@@ -1,0 +1,7 @@
+// Plans and their meaning.
+#![tactic(auto)]
+
+pub mod examples;
+pub mod ir;
+pub mod map;
+pub mod walk;
