@@ -5,4 +5,5 @@ pub mod Typings
 pub mod StableOrder
 pub mod Orders
 pub mod Names
+pub mod Masks
 pub mod SmallCases

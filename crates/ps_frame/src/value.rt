@@ -48,7 +48,7 @@ pub struct Evaluated {
 }
 
 ghost use Rattle.std.specs.Prelude.{◌≡◌, IfOk, OnErr, Err};
-ghost use Rattle.ps_frame.specs.Values.{fits_kind};
+ghost use Rattle.ps_frame.specs.Values.{fits_kind, is_true as is_true_value};
 ghost use Rattle.ps_frame.specs.Typed.{all_fit};
 
 use crate::error::FrameError;
@@ -65,6 +65,16 @@ impl Value {
             Value::Int64(_) => dtype == DataType::Int64,
             Value::IdxSize(_) => dtype == DataType::IdxSize,
             Value::String(_) => dtype == DataType::String,
+        }
+    }
+
+    /// Whether this is the truth value true.
+    pub fn is_true(&self) -> bool
+        ensures { result ≡ is_true_value self.now }
+    {
+        match self {
+            Value::Boolean(b) => *b,
+            _ => false,
         }
     }
 

@@ -1,0 +1,6 @@
+pub mod Outside
+pub mod Memory
+pub mod FirstForm
+pub mod Csv
+pub mod FirstPlan
+pub mod Answers
