@@ -4,3 +4,4 @@ pub mod CsvText
 pub mod Filtered
 pub mod Meant
 pub mod Arenas
+pub mod ToolColumns

@@ -4,3 +4,5 @@ pub mod FirstForm
 pub mod Csv
 pub mod FirstPlan
 pub mod Answers
+pub mod ToolAnswers
+pub mod ToolLaws

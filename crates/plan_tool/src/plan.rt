@@ -81,7 +81,7 @@ fn int_schema(alloc: Global, name: PlSmallStr) -> PolarsResult<Schema>
     ensures memory { OnErr result (result ≡ Err PolarsError.OutOfMemory) }
 {
     let mut schema = Schema::new(alloc);
-    match schema.push(name, DataType::Int64) {
+    match schema.push(alloc, name, DataType::Int64) {
         Ok(()) => Ok(schema),
         Err(_) => Err(PolarsError::OutOfMemory),
     }

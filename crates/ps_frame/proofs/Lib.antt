@@ -6,4 +6,5 @@ pub mod StableOrder
 pub mod Orders
 pub mod Names
 pub mod Masks
+pub mod Broadcasts
 pub mod SmallCases

@@ -1,13 +1,25 @@
 // Why a table can't be made.
 use pu_order::PlSmallStr;
 use std::alloc::{AllocError, AllocFailed};
+use thiserror::Error;
 
-#[derive(Drop)]
+/// Why a call on tables, columns or schemas gives none.
+#[derive(Debug, Drop, Error)]
 pub enum FrameError {
+    /// A name would stand twice.
+    #[error("the name {name} stands twice")]
     Duplicate { name: PlSmallStr },
+    /// A value or a column hasn't the kind that is asked for, or two schemas differ.
+    #[error("the kinds differ")]
     Kind,
+    /// Numbers of columns or rows differ.
+    #[error("the heights differ")]
     Height,
+    /// There would be more rows than `u32::MAX`.
+    #[error("too many rows")]
     Rows,
+    /// An allocation was refused.
+    #[error("out of memory")]
     OutOfMemory,
 }
 

@@ -84,6 +84,50 @@ pub enum What {
     RollingGroupBy,
 }
 
+impl What {
+    ghost use Rattle.std.specs.Prelude.{◌≡◌};
+    ghost use Rattle.ps_frame.specs.Lines.{what_name};
+
+    /// The variant's name.
+    pub fn name(self) -> &'static str
+        ensures { result.now ≡ what_name self }
+    {
+        match self {
+            What::NegativeOffset => "NegativeOffset",
+            What::Validation => "Validation",
+            What::NoColumns => "NoColumns",
+            What::LiteralAggregate => "LiteralAggregate",
+            What::RootNotSink => "RootNotSink",
+            What::FileSink => "FileSink",
+            What::Alias => "Alias",
+            What::Explode => "Explode",
+            What::Implode => "Implode",
+            What::AggGroups => "AggGroups",
+            What::Window => "Window",
+            What::AnonymousFunction => "AnonymousFunction",
+            What::SeriesLiteral => "SeriesLiteral",
+            What::FloatLiteral => "FloatLiteral",
+            What::Mean => "Mean",
+            What::Var => "Var",
+            What::Std => "Std",
+            What::Median => "Median",
+            What::Quantile => "Quantile",
+            What::TrueDivide => "TrueDivide",
+            What::Scan => "Scan",
+            What::PythonScan => "PythonScan",
+            What::ExtContext => "ExtContext",
+            What::Invalid => "Invalid",
+            What::MergeSorted => "MergeSorted",
+            What::OtherFunction => "OtherFunction",
+            What::AsOfJoin => "AsOfJoin",
+            What::InequalityJoin => "InequalityJoin",
+            What::GroupByApply => "GroupByApply",
+            What::DynamicGroupBy => "DynamicGroupBy",
+            What::RollingGroupBy => "RollingGroupBy",
+        }
+    }
+}
+
 #[derive(Drop)]
 pub enum AExpr {
     Column(PlSmallStr),

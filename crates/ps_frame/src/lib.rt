@@ -10,4 +10,6 @@ pub mod functions;
 pub mod laws;
 pub mod refusal;
 pub mod schema;
+#[cfg(test)]
+mod tests;
 pub mod value;

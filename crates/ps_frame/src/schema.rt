@@ -1,6 +1,6 @@
 // The names and kinds of a table's columns.
-ghost use Rattle.std.specs.Prelude.{◌≡◌, ◌<◌, ◌↔◌, ◌++◌, ◌∷◌, [], length, slice_get, take, IsTrue, IsFalse, IfOk, OnOk, OnErr, IsErrAnd, IfErr, Err, option_map, IsNone, IsSome};
-ghost use Rattle.ps_frame.specs.Frames.{has_name};
+ghost use Rattle.std.specs.Prelude.{◌≡◌, ◌<◌, ◌↔◌, ◌++◌, ◌∷◌, [], length, slice_get, take, IsTrue, IsFalse, IfOk, OnOk, OnErr, IsErrAnd, IfErr, Err, None, option_map, IfNone, IfSome, IsNone, IsSome, IsSomeAnd, ◌⊎◌};
+ghost use Rattle.ps_frame.specs.Frames.{has_name, shared_name};
 ghost use Rattle.ps_frame.specs.Tables.{field_index};
 
 use crate::error::FrameError;
@@ -28,6 +28,7 @@ impl Model for Schema {
 }
 
 impl Schema {
+    /// A schema without fields, which takes no memory.
     pub fn new(alloc: Global) -> Schema
         ensures { result ≡ [] }
     {
@@ -36,12 +37,21 @@ impl Schema {
         }
     }
 
+    /// How many fields there are.
     pub fn len(&self) -> usize
         ensures { result ≡ length self.now }
     {
         self.fields.len()
     }
 
+    /// Whether there is no field.
+    pub fn is_empty(&self) -> bool
+        ensures { IsTrue result ↔ (self.now ≡ []) }
+    {
+        self.fields.is_empty()
+    }
+
+    /// The name of the field at a place.
     pub fn name(&self, i: usize) -> &PlSmallStr
         requires { i < length self.now }
         ensures { option_map (λ f. f.0) (slice_get self.now i) ≡ Some result.now }
@@ -49,6 +59,7 @@ impl Schema {
         &self.fields[i].0
     }
 
+    /// The kind of the field at a place.
     pub fn kind(&self, i: usize) -> DataType
         requires { i < length self.now }
         ensures { option_map (λ f. f.1) (slice_get self.now i) ≡ Some result }
@@ -56,6 +67,7 @@ impl Schema {
         self.fields[i].1
     }
 
+    /// Where a name stands.
     pub fn index_of(&self, name: &str) -> Option<usize>
         ensures { result ≡ field_index name.now self.now }
     {
@@ -69,17 +81,25 @@ impl Schema {
         self.fields.iter().any(|f| f.0.eq_str(name))
     }
 
-    /// One more field. Its name must not stand yet.
-    pub fn push(&mut self, name: PlSmallStr, dtype: DataType) -> Result<(), FrameError>
+    /// One more field, refused where its name stands already or for want of memory.
+    pub fn push(
+        &mut self,
+        _alloc: Global,
+        name: PlSmallStr,
+        dtype: DataType,
+    ) -> Result<(), FrameError>
         ensures added { OnOk result (self.new ≡ self.old ++ (name, dtype) ∷ []) }
         ensures duplicate { (result ≡ Err (FrameError.Duplicate name)) ↔ IsTrue (has_name name self.old) }
+        ensures errors { OnErr result (IsFalse (has_name name self.old) → result ≡ Err FrameError.OutOfMemory) }
         ensures unchanged { OnErr result (self.new ≡ self.old) }
     {
         if self.contains(name.as_str()) {
             return Err(FrameError::Duplicate { name });
         }
-        self.append(name, dtype)?;
-        Ok(())
+        match self.append(name, dtype) {
+            Ok(()) => Ok(()),
+            Err(_) => Err(FrameError::OutOfMemory),
+        }
     }
 
     fn append(&mut self, name: PlSmallStr, dtype: DataType) -> Result<(), AllocError>
@@ -91,11 +111,41 @@ impl Schema {
         Ok(())
     }
 
+    /// An equal schema.
+    ///
+    /// Fails only for want of memory.
     pub fn try_clone(&self, alloc: Global) -> Result<Schema, FrameError>
         ensures same { IfOk result (λ s. s ≡ self.now) }
         ensures memory { OnErr result (result ≡ Err FrameError.OutOfMemory) }
     {
         let fields = clone_fields(alloc, self.fields.as_slice())?;
+        Ok(Schema { fields })
+    }
+
+    /// The fields of this schema, and then those of another one, which may share no name with it.
+    ///
+    /// Refused with the first name of the other schema that stands in this one, or for want of memory.
+    pub fn joined(&self, alloc: Global, other: &Schema) -> Result<Schema, FrameError>
+        ensures fields { IfOk result (λ s. s ≡ self.now ++ other.now) }
+        ensures apart { OnOk result (shared_name self.now other.now ≡ None) }
+        ensures errors { OnErr result ((result ≡ Err FrameError.OutOfMemory) ⊎ IsSomeAnd (shared_name self.now other.now) (λ name. result ≡ Err (FrameError.Duplicate name))) }
+    {
+        if let Some(i) = first_shared(self, other) {
+            return match other.name(i).try_clone(alloc) {
+                Ok(name) => Err(FrameError::Duplicate { name }),
+                Err(_) => Err(FrameError::OutOfMemory),
+            };
+        }
+        self.beside(alloc, other)
+    }
+
+    fn beside(&self, alloc: Global, other: &Schema) -> Result<Schema, FrameError>
+        requires { shared_name self.now other.now ≡ None }
+        ensures fields { IfOk result (λ s. s ≡ self.now ++ other.now) }
+        ensures memory { OnErr result (result ≡ Err FrameError.OutOfMemory) }
+    {
+        let mut fields = clone_fields(alloc, self.fields.as_slice())?;
+        append_fields(alloc, &mut fields, other.fields.as_slice())?;
         Ok(Schema { fields })
     }
 
@@ -114,14 +164,40 @@ fn clone_fields(
     ensures same { IfOk result (λ copy. copy.items ≡ fields.now) }
     ensures memory { OnErr result (result ≡ Err FrameError.OutOfMemory) }
 {
-    let mut copy = Vec::new(alloc);
+    let mut copy = Vec::with_capacity(alloc, fields.len())?;
+    append_fields(alloc, &mut copy, fields)?;
+    Ok(copy)
+}
+
+fn append_fields(
+    alloc: Global,
+    copy: &mut Vec<(PlSmallStr, DataType)>,
+    fields: &[(PlSmallStr, DataType)],
+) -> Result<(), FrameError>
+    ensures added { OnOk result (copy.new.items ≡ copy.old.items ++ fields.now) }
+    ensures memory { OnErr result (result ≡ Err FrameError.OutOfMemory) }
+{
     for field in fields {
         let Ok(name) = field.0.try_clone(alloc) else {
             return Err(FrameError::OutOfMemory);
         };
         copy.push((name, field.1))?;
     }
-    Ok(copy)
+    Ok(())
+}
+
+// Where the first name stands in the other schema that stands in this one too.
+fn first_shared(schema: &Schema, other: &Schema) -> Option<usize>
+    ensures none { IfNone result (shared_name schema.now other.now ≡ None) }
+    ensures some { IfSome result (λ i. i < length other.now) }
+    ensures place { IfSome result (λ i. shared_name schema.now other.now ≡ option_map (λ f. f.0) (slice_get other.now i)) }
+{
+    for i in 0..other.len() {
+        if schema.contains(other.name(i).as_str()) {
+            return Some(i);
+        }
+    }
+    None
 }
 
 fn same_fields(a: &[(PlSmallStr, DataType)], b: &[(PlSmallStr, DataType)]) -> bool

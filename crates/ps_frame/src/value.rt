@@ -11,7 +11,7 @@ pub enum DataType {
 }
 
 /// One value; every kind has null.
-#[derive(Drop)]
+#[derive(Debug, Drop)]
 pub enum Value {
     Null,
     Boolean(bool),
@@ -33,14 +33,14 @@ pub enum DataFault {
 }
 
 /// A value, or a fault in its place.
-#[derive(Drop)]
+#[derive(Debug, Drop)]
 pub enum Cell {
     Val(Value),
     Bad(DataFault),
 }
 
 /// The column that an expression gives.
-#[derive(Drop)]
+#[derive(Debug, Drop)]
 pub struct Evaluated {
     pub dtype: DataType,
     pub cells: Vec<Cell>,

@@ -1,30 +1,18 @@
 -- Plans as arenas, which unfold by computing to the plans of the other files.
-use Rattle.std.proofs.Common.{◌≡◌, ℕ, false, [], ◌∷◌, None, pos, refl, arith, inl}
+use Rattle.std.proofs.Common.{◌≡◌, false, [], ◌∷◌, None, pos, refl}
 use Rattle.std.specs.Global.{Vec}
-use Rattle.std.specs.Prelude.{codes, true}
+use Rattle.std.specs.Prelude.{codes}
 use Rattle.pu_index.specs.declared.arena.Node.{Node}
-use Rattle.ps_frame.specs.Functions.{Functions}
 use Rattle.ps_frame.specs.Trees.{tree_within}
 use Rattle.ps_frame.specs.declared.expr.AExpr.TheVariants as expr
 use Rattle.ps_frame.specs.declared.expr.LiteralValue.TheVariants as lit
 use Rattle.ps_frame.specs.declared.expr.Operator.TheVariants as op
-use Rattle.ps_frame.specs.declared.refusal.Why.TheVariants as why
-use Rattle.ps_plan.specs.Graph.{here, onward}
 use Rattle.ps_plan.specs.Plans.{IsPlan, Plan, plan_within, tree_of}
-use Rattle.ps_plan.specs.Refusals.{IsRefused, in_circle, invalid_plan}
-use Rattle.ps_plan.specs.Steps.{Name}
 use Rattle.ps_plan.specs.declared.ir.ExprIR.{ExprIR}
 use Rattle.ps_plan.specs.declared.ir.IR.TheVariants as entry
-use Rattle.ps_plan.specs.declared.ir.OutputName.TheVariants as output
 use Rattle.ps_plan.specs.declared.ir.SinkType.TheVariants as sink_type
+use Rattle.ps_plan.specs.Refused.{named, node_of}
 use Rattle.ps_plan.specs.Examples.{a_frame, filter_plan, given, twice_plan}
-
-abbrev pub node_of : ℕ → Node
-node_of n = record { 0 = n }
-
--- an expression's number under a name
-abbrev pub named : Name → ℕ → ExprIR
-named name e = record { node = node_of e; output_name = output.Alias name }
 
 abbrev filter_arenas : Plan
 filter_arenas =
@@ -62,15 +50,3 @@ module _ (keys none k1 k2 : Vec ExprIR) (both : Vec Node) (is_keys : keys.items 
   twice_unfolds : tree_of twice_arenas 6 ≡ twice_plan
   unfolding plan_within tree_within
   twice_unfolds = rw (is_both, is_k1, is_k2, is_keys, is_none) refl
-
--- A filter whose input is itself is refused.
-abbrev circle : Plan
-circle =
-    record {
-      nodes = entry.Filter (node_of 0) (named (codes "p") 0) ∷ entry.Sink (node_of 0) sink_type.Memory ∷ [];
-      exprs = expr.Literal (lit.Boolean true) ∷ [];
-      root = node_of 1;
-    }
-
-circle_refused : (F : Functions) → IsRefused F circle 0 (invalid_plan why.Shape)
-circle_refused F = record { reached = onward (0, omega arith, refl) here; because = inl (in_circle (record { first = 0; is_next = (0, omega arith, refl); way = here })) }

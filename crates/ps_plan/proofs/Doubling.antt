@@ -17,7 +17,7 @@ use Rattle.ps_plan.specs.Steps.{entry_exprs, entry_inputs, union}
 use Rattle.ps_plan.specs.declared.ir.IR.{IR}
 use Rattle.ps_plan.specs.declared.ir.IR.TheVariants as entry
 use Rattle.ps_plan.specs.declared.ir.SinkType.TheVariants as sink_type
-use Rattle.ps_plan.proofs.Arenas.{node_of}
+use Rattle.ps_plan.specs.Refused.{doubling_plan, node_of, unions_from}
 use Rattle.ps_plan.specs.Examples.{one_input, scan_of}
 
 -- Where each number names smaller ones alone, nothing reaches itself.
@@ -65,13 +65,11 @@ module _ (f : Frame) (twice : ℕ → Vec Node) (is_twice : (i : ℕ) → (twice
   abbrev union_of : ℕ → IR
   union_of i = entry.Union (twice i) (record { slice = None })
 
-  -- n unions from node i on, and a sink
   abbrev unions : ℕ → ℕ → List IR
-  unions i zero = entry.Sink (node_of i) sink_type.Memory ∷ []
-  unions i (suc n) = union_of i ∷ unions (i + 1) n
+  unions i n = unions_from twice i n
 
-  abbrev pub doubling : Plan
-  doubling = record { nodes = entry.DataFrameScan f None ∷ unions 0 40; exprs = []; root = node_of 41 }
+  abbrev doubling : Plan
+  doubling = doubling_plan f twice
 
   length_unions : (i n : ℕ) → length (unions i n) ≡ n + 1
   length_unions i zero = refl

@@ -16,3 +16,5 @@ pub mod Sound
 pub mod Lowering
 pub mod Maps
 pub mod Examples
+pub mod Laws
+pub mod Refused

@@ -3,5 +3,6 @@
 
 pub mod examples;
 pub mod ir;
+pub mod laws;
 pub mod map;
 pub mod walk;

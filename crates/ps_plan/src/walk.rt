@@ -1,5 +1,5 @@
 // Walks over a plan's arenas.
-ghost use Rattle.std.specs.Prelude.{◌≡◌, Some};
+ghost use Rattle.std.specs.Prelude.{◌≡◌, Some, slice_get};
 ghost use Rattle.ps_frame.specs.Trees.{tree_at};
 ghost use Rattle.ps_plan.specs.Plans.{IsCompletePlan, IsPlan, node_tree, plan_at, plan_size};
 
@@ -10,6 +10,7 @@ use pu_index::{Arena, Node};
 /// The entry of a node, over the trees of whose inputs its tree stands.
 pub fn entry<'a>(node: Node, ir: &'a Arena<IR>, exprs: &Arena<AExpr>) -> &'a IR
     requires { IsPlan ir.now exprs.now node }
+    ensures entry { slice_get ir.now node.0 ≡ Some result.now }
     ensures tree { plan_at ir.now exprs.now node ≡ node_tree (tree_at exprs.now) (plan_at ir.now exprs.now) node (Some result.now) }
     ensures complete { IsCompletePlan (node_tree (tree_at exprs.now) (plan_at ir.now exprs.now) node (Some result.now)) }
     ensures size { plan_size (plan_at ir.now exprs.now node) ≡ plan_size (node_tree (tree_at exprs.now) (plan_at ir.now exprs.now) node (Some result.now)) }

@@ -1,0 +1,13 @@
+pub mod ArenaLends
+pub mod Calls
+pub mod ChunkSteps
+pub mod ChunksLeft
+pub mod Counted
+pub mod FixedRing
+pub mod Idx
+pub mod Padded
+pub mod Parts
+pub mod Portion
+pub mod Reader
+pub mod StoredIn
+pub mod UnitVec

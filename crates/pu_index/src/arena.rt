@@ -1,18 +1,31 @@
 // Arenas: entries that are named by their numbers.
-ghost use Rattle.std.specs.Prelude.{◌≡◌, ◌<◌, ◌++◌, ◌∷◌, [], length, slice_get, IfOk, OnErr, Err};
+ghost use Rattle.std.specs.Prelude.{◌≡◌, ◌≢◌, ◌↔◌, ◌+◌, ◌<◌, ◌++◌, ◌∷◌, [], length, slice_get, slice_set, swap, IfOk, IsTrue, OnErr, Ok, Err, MatchOption, MatchResult};
+ghost use Rattle.std.specs.Borrow.{sem};
 ghost use Rattle.pu_order.specs.declared.error.PolarsUtilsError.TheVariants as refusal;
 
 use pu_order::Result;
 use std::alloc::Global;
 use std::marker::Model;
+use std::mem;
 
-/// The number of an entry of an arena.
-#[derive(Clone, Copy, Debug, PartialEq, Eq)]
+/// The number of an entry of an arena. The default is the greatest `usize`, which names none.
+#[derive(Clone, Copy, Debug, PartialEq, Eq, PartialOrd, Ord, Hash)]
 pub struct Node(pub usize);
+
+impl Default for Node {
+    ghost use Rattle.std.specs.Prelude.{◌≡◌, ◌+◌, ◌^◌};
+
+    ghost is_default = { λ n. n.0 + 1 ≡ 2 ^ 64 };
+
+    fn default() -> Node {
+        Node(usize::MAX)
+    }
+}
 
 /// A list of entries, each named by its place.
 #[derive(Drop)]
 pub struct Arena<T> {
+    version: u32,
     items: Vec<T>,
 }
 
@@ -25,13 +38,32 @@ impl<T> Model for Arena<T> {
 }
 
 impl<T> Arena<T> {
+    ghost use Rattle.pu_index.specs.ArenaLends.{lends_entry};
+
     /// An arena without entries, which takes no memory.
     pub fn new(alloc: Global) -> Arena<T>
         ensures { result ≡ [] }
     {
         Arena {
+            version: 0,
             items: Vec::new(alloc),
         }
+    }
+
+    /// An arena without entries that has room for `cap` of them.
+    ///
+    /// Fails only for want of memory.
+    pub fn with_capacity(alloc: Global, cap: usize) -> Result<Arena<T>>
+        ensures empty { IfOk result (λ a. a ≡ []) }
+        ensures memory { OnErr result (result ≡ Err refusal.OutOfMemory) }
+    {
+        let items = Vec::with_capacity(alloc, cap)?;
+        Ok(Arena { version: 0, items })
+    }
+
+    /// How often the arena was cleared, counted around at 2^32.
+    pub fn version(&self) -> u32 {
+        self.version
     }
 
     /// How many entries there are.
@@ -41,12 +73,44 @@ impl<T> Arena<T> {
         self.items.len()
     }
 
+    /// Whether there is no entry.
+    pub fn is_empty(&self) -> bool
+        ensures { IsTrue result ↔ (self.now ≡ []) }
+    {
+        self.items.is_empty()
+    }
+
+    /// The number of the entry that was added last.
+    pub fn last_node(&mut self) -> Option<Node>
+        ensures last { MatchOption result (self.old ≡ []) (λ n. n.0 + 1 ≡ length self.old) }
+        ensures unchanged { self.new ≡ self.old }
+    {
+        self.items.len().checked_sub(1).map(Node)
+    }
+
     /// The entry of a number.
     pub fn get(&self, n: Node) -> &T
         requires { n.0 < length self.now }
         ensures { slice_get self.now n.0 ≡ Some result.now }
     {
         &self.items[n.0]
+    }
+
+    /// The entry of a number, which nothing tests when it runs.
+    pub fn get_unchecked(&self, n: Node) -> &T
+        requires { n.0 < length self.now }
+        ensures { slice_get self.now n.0 ≡ Some result.now }
+    {
+        self.get(n)
+    }
+
+    /// The entry of a number, to write to.
+    pub fn get_mut(&mut self, n: Node) -> &mut T
+        requires { n.0 < length self.old }
+        ensures* writes_back { sem 𝓛 (lends_entry T.row self.entry n.0 result) }
+        ensures value { slice_get self.old n.0 ≡ Some result.now }
+    {
+        &mut self.items[n.0]
     }
 
     /// One more entry, under the number that is answered.
@@ -64,4 +128,127 @@ impl<T> Arena<T> {
         self.items.push(val)?;
         Ok(n)
     }
+
+    /// Takes the last entry off.
+    pub fn pop(&mut self) -> Option<T>
+        ensures { MatchOption result ((self.old ≡ []) × (self.new ≡ [])) (λ val. self.old ≡ self.new ++ val ∷ []) }
+    {
+        self.items.pop()
+    }
+
+    /// Lets two entries change places.
+    pub fn swap(&mut self, a: Node, b: Node)
+        requires first { a.0 < length self.old }
+        requires second { b.0 < length self.old }
+        ensures { self.new ≡ swap self.old a.0 b.0 }
+    {
+        self.items.swap(a.0, b.0);
+    }
+
+    /// Puts a value in the place of an entry, which is answered.
+    pub fn replace(&mut self, n: Node, val: T) -> T
+        requires { n.0 < length self.old }
+        ensures value { slice_get self.old n.0 ≡ Some result }
+        ensures written { self.new ≡ slice_set self.old n.0 val }
+    {
+        mem::replace(&mut self.items[n.0], val)
+    }
+
+    /// Takes off every entry, and counts the version up.
+    pub fn clear(&mut self)
+    where
+        T: Drop,
+        ensures { self.new ≡ [] }
+    {
+        self.items.clear();
+        self.version = self.version.wrapping_add(1);
+    }
+}
+
+impl<T: Default> Arena<T> {
+    /// Takes an entry, and leaves the default in its place.
+    pub fn take(&mut self, n: Node) -> T
+        requires { n.0 < length self.old }
+        ensures value { slice_get self.old n.0 ≡ Some result }
+        ensures left { (w : T) × T.is_default w × (self.new ≡ slice_set self.old n.0 w) }
+    {
+        self.replace(n, T::default())
+    }
+
+    /// Puts what `f` answers at an entry in its place.
+    pub fn replace_with<F: FnOnce(T) -> T>(&mut self, n: Node, f: F)
+    where
+        T: Drop,
+        requires place { n.0 < length self.old }
+        requires callable { F.IsAlwaysCallable f }
+        ensures { (x y : T) × (slice_get self.old n.0 ≡ Some x) × F.post f x y × (self.new ≡ slice_set self.old n.0 y) }
+    {
+        let val = self.take(n);
+        self.replace(n, f(val));
+    }
+
+    /// Puts what `f` answers at an entry in its place.
+    ///
+    /// Fails with the error of `f`, and leaves the default there.
+    pub fn try_replace_with<F: FnMut(T) -> Result<T>>(&mut self, n: Node, mut f: F) -> Result<()>
+    where
+        T: Drop,
+        requires place { n.0 < length self.old }
+        requires callable { F.IsAlwaysCallable f }
+        ensures { (x : T) × (slice_get self.old n.0 ≡ Some x) × MatchResult result (λ _. (y : T) × F.post f x (Ok y) × (self.new ≡ slice_set self.old n.0 y)) (λ e. (w : T) × T.is_default w × F.post f x (Err e) × (self.new ≡ slice_set self.old n.0 w)) }
+    {
+        let val = self.take(n);
+        match f(val) {
+            Ok(val) => {
+                self.replace(n, val);
+                Ok(())
+            }
+            Err(error) => Err(error),
+        }
+    }
+}
+
+impl<T: Clone> Arena<T> {
+    /// One more entry, equal to that of a number; clones have to equal their source.
+    ///
+    /// Fails only for want of memory; the arena is then as before.
+    pub fn duplicate(&mut self, n: Node) -> Result<Node>
+        requires place { n.0 < length self.old }
+        requires clones { (x y : T) → T.is_clone x y → y ≡ x }
+        ensures number { IfOk result (λ m. m.0 ≡ length self.old) }
+        ensures added { IfOk result (λ m. (x : T) × (slice_get self.old n.0 ≡ Some x) × (self.new ≡ self.old ++ x ∷ [])) }
+        ensures unchanged { OnErr result (self.new ≡ self.old) }
+        ensures memory { OnErr result (result ≡ Err refusal.OutOfMemory) }
+    {
+        let val = self.get(n).clone()?;
+        self.add(val)
+    }
+
+    /// An equal arena; clones have to equal their source.
+    ///
+    /// Fails only for want of memory.
+    pub fn try_clone(&self, alloc: Global) -> Result<Arena<T>>
+        requires { (x y : T) → T.is_clone x y → y ≡ x }
+        ensures same { IfOk result (λ a. a ≡ self.now) }
+        ensures memory { OnErr result (result ≡ Err refusal.OutOfMemory) }
+    {
+        let items = cloned(alloc, &self.items)?;
+        Ok(Arena {
+            version: self.version,
+            items,
+        })
+    }
+}
+
+/// The clones of some values, in order.
+fn cloned<T: Clone>(alloc: Global, values: &[T]) -> Result<Vec<T>>
+    requires { (x y : T) → T.is_clone x y → y ≡ x }
+    ensures same { IfOk result (λ copies. copies.items ≡ values.now) }
+    ensures memory { OnErr result (result ≡ Err refusal.OutOfMemory) }
+{
+    let mut copies = Vec::with_capacity(alloc, values.len())?;
+    for value in values {
+        copies.push(value.clone()?)?;
+    }
+    Ok(copies)
 }

@@ -1,0 +1,4 @@
+pub mod Slots
+pub mod Lends
+pub mod SlotMapLends
+pub mod SecondaryMapLends

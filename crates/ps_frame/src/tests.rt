@@ -1,0 +1,182 @@
+// Tables as a caller makes them.
+use crate::column::Column;
+use crate::error::FrameError;
+use crate::expr::What;
+use crate::frame::DataFrame;
+use crate::refusal::{Bound, Compute, PolarsError, Why};
+use crate::schema::Schema;
+use crate::value::{DataType, Value};
+use pu_index::Node;
+use pu_order::PlSmallStr;
+use std::alloc::Global;
+use std::test::Fail;
+
+// The whole numbers 1, 2 and so on.
+fn numbers(alloc: Global, count: u8) -> Result<Column, FrameError> {
+    let mut values = Vec::new(alloc);
+    for i in 0..count {
+        values.push(Value::Int64(i64::from(i) + 1))?;
+    }
+    Column::new(alloc, DataType::Int64, values)
+}
+
+fn text(alloc: Global, text: &str) -> Result<PlSmallStr, FrameError> {
+    match PlSmallStr::from_str(alloc, text) {
+        Ok(name) => Ok(name),
+        Err(_) => Err(FrameError::OutOfMemory),
+    }
+}
+
+fn schema_of(alloc: Global, name: &str) -> Result<Schema, FrameError> {
+    let mut schema = Schema::new(alloc);
+    schema.push(alloc, text(alloc, name)?, DataType::Int64)?;
+    Ok(schema)
+}
+
+// One column of that name with the numbers.
+fn table(alloc: Global, name: &str, height: u8) -> Result<DataFrame, FrameError> {
+    let schema = schema_of(alloc, name)?;
+    let mut columns = Vec::new(alloc);
+    columns.push(numbers(alloc, height)?)?;
+    DataFrame::new(alloc, schema, columns)
+}
+
+// The columns a and b with so many numbers each.
+fn two_columns(alloc: Global, a: u8, b: u8) -> Result<(Schema, Vec<Column>), FrameError> {
+    let mut schema = schema_of(alloc, "a")?;
+    schema.push(alloc, text(alloc, "b")?, DataType::Int64)?;
+    let mut columns = Vec::new(alloc);
+    columns.push(numbers(alloc, a)?)?;
+    columns.push(numbers(alloc, b)?)?;
+    Ok((schema, columns))
+}
+
+fn is_number(value: Option<&Value>, number: i64) -> bool {
+    match value {
+        Some(Value::Int64(found)) => *found == number,
+        _ => false,
+    }
+}
+
+#[test]
+fn schemas_refuse_a_name_that_stands(rt: HostRuntime) -> Result<(), Fail> {
+    let mut schema = schema_of(rt.alloc(), "a")?;
+    let refused = schema.push(rt.alloc(), text(rt.alloc(), "a")?, DataType::String);
+    assert!(rt; matches!(refused, Err(FrameError::Duplicate { .. })));
+    assert!(rt; !schema.is_empty());
+    assert_eq!(rt; schema.index_of("a"), Some(0));
+    assert_eq!(rt; schema.index_of("b"), None);
+    Ok(())
+}
+
+#[test]
+fn lengths_of_two_and_three_make_no_table(rt: HostRuntime) -> Result<(), Fail> {
+    let (schema, columns) = two_columns(rt.alloc(), 2, 3)?;
+    let refused = DataFrame::new(rt.alloc(), schema, columns);
+    assert!(rt; matches!(refused, Err(FrameError::Height)));
+    Ok(())
+}
+
+#[test]
+fn one_value_is_repeated_to_three_rows(rt: HostRuntime) -> Result<(), Fail> {
+    let (schema, columns) = two_columns(rt.alloc(), 1, 3)?;
+    let df = DataFrame::new_with_broadcast(rt.alloc(), schema, columns)?;
+    assert_eq!(rt; df.height(), 3);
+    let columns = df.get_columns();
+    assert_eq!(rt; columns.len(), 2);
+    assert!(rt; is_number(columns[0].values().get(2), 1));
+    assert!(rt; is_number(columns[1].values().get(2), 3));
+    Ok(())
+}
+
+#[test]
+fn tables_of_two_schemas_are_not_stacked(rt: HostRuntime) -> Result<(), Fail> {
+    let a = table(rt.alloc(), "a", 2)?;
+    let b = table(rt.alloc(), "b", 2)?;
+    assert!(rt; matches!(a.vstack(rt.alloc(), &b), Err(FrameError::Kind)));
+    let twice = a.vstack(rt.alloc(), &a)?;
+    assert_eq!(rt; twice.height(), 4);
+    Ok(())
+}
+
+#[test]
+fn tables_stand_side_by_side(rt: HostRuntime) -> Result<(), Fail> {
+    let a = table(rt.alloc(), "a", 2)?;
+    let b = table(rt.alloc(), "b", 2)?;
+    let both = a.hstack(rt.alloc(), &b)?;
+    assert_eq!(rt; both.schema().len(), 2);
+    assert!(rt; matches!(a.hstack(rt.alloc(), &a), Err(FrameError::Duplicate { .. })));
+    let short = table(rt.alloc(), "a", 1)?;
+    assert!(rt; matches!(a.hstack(rt.alloc(), &short), Err(FrameError::Height)));
+    Ok(())
+}
+
+#[test]
+fn a_filter_drops_false_and_null(rt: HostRuntime) -> Result<(), Fail> {
+    let df = table(rt.alloc(), "a", 3)?;
+    let marks = vec![in rt.alloc(); Value::Null, Value::Boolean(false), Value::Boolean(true)]?;
+    let mask = Column::new(rt.alloc(), DataType::Boolean, marks)?;
+    if mask.dtype() != DataType::Boolean || mask.len() != df.height() {
+        return Err(Fail::from("the mask"));
+    }
+    let kept = df.filter(rt.alloc(), &mask)?;
+    assert_eq!(rt; kept.height(), 1);
+    let Some(column) = kept.get_columns().first() else {
+        return Err(Fail::from("no column"));
+    };
+    assert!(rt; is_number(column.values().get(0), 3));
+    Ok(())
+}
+
+#[test]
+fn a_slice_is_clipped_and_shares(rt: HostRuntime) -> Result<(), Fail> {
+    let df = table(rt.alloc(), "a", 3)?.share(rt.alloc())?;
+    let part = df.slice(rt.alloc(), 1, 9)?;
+    assert_eq!(rt; part.height(), 2);
+    assert_eq!(rt; df.slice(rt.alloc(), 7, 1)?.height(), 0);
+    let none = DataFrame::empty_with_schema(rt.alloc(), df.schema())?;
+    assert_eq!(rt; none.height(), 0);
+    Ok(())
+}
+
+#[test]
+fn refusals_are_shown_on_a_line(rt: HostRuntime) -> Result<(), Fail> {
+    let node = Node(1);
+    let shape = PolarsError::InvalidPlan {
+        node: Node(0),
+        why: Why::Shape,
+    };
+    assert_eq!(rt;
+        format!(in rt.alloc(); "{shape}")?.as_str(),
+        "InvalidPlan Shape at 0"
+    );
+    let name = text(rt.alloc(), "z")?;
+    let unknown = PolarsError::ColumnNotFound { node, name };
+    assert_eq!(rt;
+        format!(in rt.alloc(); "{unknown}")?.as_str(),
+        "ColumnNotFound at 1: z"
+    );
+    let why = Compute::StrictCast;
+    let cast = PolarsError::ComputeError { node, why };
+    assert_eq!(rt;
+        format!(in rt.alloc(); "{cast}")?.as_str(),
+        "ComputeError StrictCast at 1"
+    );
+    let rows = PolarsError::OutOfBounds {
+        node,
+        why: Bound::Rows,
+    };
+    assert_eq!(rt;
+        format!(in rt.alloc(); "{rows}")?.as_str(),
+        "OutOfBounds Rows at 1"
+    );
+    let what = What::FileSink;
+    let sink = PolarsError::Unsupported { node, what };
+    assert_eq!(rt;
+        format!(in rt.alloc(); "{sink}")?.as_str(),
+        "Unsupported FileSink at 1"
+    );
+    let memory = PolarsError::from(std::alloc::AllocError);
+    assert_eq!(rt; format!(in rt.alloc(); "{memory}")?.as_str(), "OutOfMemory");
+    Ok(())
+}

@@ -1,0 +1,5 @@
+pub mod CallsPush
+pub mod Padded
+pub mod Searches
+pub mod StoredParts
+pub mod Turn

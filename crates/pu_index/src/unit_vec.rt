@@ -1,0 +1,314 @@
+// Vectors that hold one item without memory.
+ghost use Rattle.std.specs.Prelude.{◌≡◌, ◌≢◌, ◌↔◌, ◌+◌, ◌-◌, ◌<◌, ◌≤◌, ◌^◌, ◌++◌, ◌∷◌, [], max, length, take, IfOk, IsOk, IsTrue, OnOk, OnErr, Err, MatchOption, replicate, vec_capacity};
+ghost use Rattle.std.specs.Mem.{FitsInMemory};
+ghost use Rattle.std.specs.Slice.Iter.{iter_rest};
+ghost use Rattle.pu_index.specs.UnitVec.{short, grown};
+ghost use Rattle.pu_order.specs.declared.error.PolarsUtilsError.TheVariants as refusal;
+
+use crate::idx::IdxSize;
+use pu_order::Result;
+use std::alloc::Global;
+use std::marker::Model;
+use std::{array, fmt, slice};
+
+/// Numbers of rows.
+pub type IdxVec = UnitVec<IdxSize>;
+
+/// A vector of fewer than 2^31 items, of which the first takes no memory.
+#[derive(Drop)]
+pub struct UnitVec<T> {
+    inline: Option<T>,
+    heap: Vec<T>,
+}
+
+impl<T> Model for UnitVec<T> {
+    ghost use Rattle.std.specs.Prelude.{◌++◌, max, vec_capacity};
+    ghost use Rattle.std.specs.Option.{option_to_list};
+    ghost use Rattle.pu_index.specs.UnitVec.{Short, short, IsUnit};
+
+    ghost Value = { Short T };
+
+    ghost view = { λ v. short (option_to_list v.inline ++ v.heap.items) (max 1 (vec_capacity v.heap)) };
+
+    ghost invariant = { λ v. IsUnit v.inline v.heap };
+}
+
+impl<T: Copy> UnitVec<T> {
+    /// A vector without items that has room for one, which takes no memory.
+    pub fn new(alloc: Global) -> UnitVec<T>
+        ensures { result ≡ short [] 1 }
+    {
+        UnitVec {
+            inline: None,
+            heap: empty(alloc),
+        }
+    }
+
+    /// A vector without items that has room for `capacity` of them, or for one.
+    ///
+    /// Fails only for want of memory.
+    pub fn with_capacity(alloc: Global, capacity: usize) -> Result<UnitVec<T>>
+        ensures empty { IfOk result (λ v. v ≡ short [] (max 1 capacity)) }
+        ensures inline { capacity ≤ 1 → IsOk result }
+        ensures memory { OnErr result (result ≡ Err refusal.OutOfMemory) }
+    {
+        if capacity <= 1 {
+            return Ok(UnitVec::new(alloc));
+        }
+        let heap = Vec::with_capacity(alloc, capacity)?;
+        Ok(UnitVec { inline: None, heap })
+    }
+
+    /// How many items there are.
+    pub fn len(&self) -> usize
+        ensures value { result ≡ length self.now.items }
+        ensures within { result ≤ self.now.capacity }
+    {
+        match &self.inline {
+            Some(_) => 1,
+            None => self.heap.len(),
+        }
+    }
+
+    /// Whether there is no item.
+    pub fn is_empty(&self) -> bool
+        ensures { IsTrue result ↔ (self.now.items ≡ []) }
+    {
+        self.len() == 0
+    }
+
+    /// How many items fit without memory.
+    pub fn capacity(&self) -> usize
+        ensures value { result ≡ self.now.capacity }
+        ensures one { 1 ≤ result }
+    {
+        self.heap.capacity().max(1)
+    }
+
+    /// The items.
+    pub fn as_slice(&self) -> &[T]
+        requires { FitsInMemory T.row }
+        ensures { result.now ≡ self.now.items }
+    {
+        match &self.inline {
+            Some(item) => array::from_ref(item).as_slice(),
+            None => self.heap.as_slice(),
+        }
+    }
+
+    /// Goes over the items.
+    pub fn iter(&self) -> slice::Iter<'_, T>
+        requires { FitsInMemory T.row }
+        ensures { iter_rest result ≡ self.now.items }
+    {
+        self.as_slice().iter()
+    }
+
+    /// Takes every item off, and keeps the room.
+    pub fn clear(&mut self)
+        ensures { self.new ≡ short [] self.old.capacity }
+    {
+        self.inline = None;
+        self.heap.clear();
+    }
+
+    /// Takes the last item off.
+    pub fn pop(&mut self) -> Option<T>
+        ensures items { MatchOption result ((self.old.items ≡ []) × (self.new.items ≡ [])) (λ item. self.old.items ≡ self.new.items ++ item ∷ []) }
+        ensures capacity { self.new.capacity ≡ self.old.capacity }
+    {
+        match self.inline {
+            Some(item) => {
+                self.inline = None;
+                Some(item)
+            }
+            None => self.heap.pop(),
+        }
+    }
+
+    /// Appends an item to a vector that has room for it, so that no memory is taken.
+    pub fn push_unchecked(&mut self, item: T)
+        requires { length self.old.items < self.old.capacity }
+        ensures { self.new ≡ short (self.old.items ++ item ∷ []) self.old.capacity }
+    {
+        if self.heap.capacity() <= 1 {
+            self.inline = Some(item);
+        } else {
+            self.heap.push_reserved(item);
+        }
+    }
+
+    /// Makes room for more items: for twice as many as fit, for as many as are asked for, or for
+    /// eight, whichever is most.
+    ///
+    /// Fails only for want of memory; the vector is then as before.
+    pub fn reserve(&mut self, additional: usize) -> Result<()>
+        requires { length self.old.items + additional < 2 ^ 31 }
+        ensures grown { OnOk result (self.new ≡ short self.old.items (grown self.old.capacity (length self.old.items + additional))) }
+        ensures room { length self.old.items + additional ≤ self.old.capacity → IsOk result }
+        ensures unchanged { OnErr result (self.new ≡ self.old) }
+        ensures memory { OnErr result (result ≡ Err refusal.OutOfMemory) }
+    {
+        let needed = self.len() + additional;
+        let capacity = self.capacity();
+        if needed <= capacity {
+            return Ok(());
+        }
+        let room = capacity.saturating_mul(2).max(needed).max(8);
+        self.heap.reserve_exact(room - self.heap.len())?;
+        if let Some(item) = self.inline {
+            self.inline = None;
+            self.heap.push_reserved(item);
+        }
+        Ok(())
+    }
+
+    /// Appends an item. Where there is room, no memory is taken.
+    ///
+    /// Fails only for want of memory; the vector is then as before.
+    pub fn push(&mut self, item: T) -> Result<()>
+        requires { length self.old.items + 1 < 2 ^ 31 }
+        ensures pushed { OnOk result (self.new ≡ short (self.old.items ++ item ∷ []) (grown self.old.capacity (length self.old.items + 1))) }
+        ensures room { length self.old.items < self.old.capacity → IsOk result }
+        ensures unchanged { OnErr result (self.new ≡ self.old) }
+        ensures memory { OnErr result (result ≡ Err refusal.OutOfMemory) }
+    {
+        self.reserve(1)?;
+        self.push_unchecked(item);
+        Ok(())
+    }
+
+    /// Appends some items.
+    ///
+    /// Fails only for want of memory; the vector is then as before.
+    pub fn extend_from_slice(&mut self, items: &[T]) -> Result<()>
+        requires { length self.old.items + length items.now < 2 ^ 31 }
+        ensures appended { OnOk result (self.new ≡ short (self.old.items ++ items.now) (grown self.old.capacity (length self.old.items + length items.now))) }
+        ensures unchanged { OnErr result (self.new ≡ self.old) }
+        ensures memory { OnErr result (result ≡ Err refusal.OutOfMemory) }
+    {
+        self.reserve(items.len())?;
+        for item in items {
+            self.push_unchecked(*item);
+        }
+        Ok(())
+    }
+
+    /// A vector of one item, which takes no memory.
+    pub fn of_one(alloc: Global, item: T) -> UnitVec<T>
+        ensures { result ≡ short (item ∷ []) 1 }
+    {
+        UnitVec {
+            inline: Some(item),
+            heap: empty(alloc),
+        }
+    }
+
+    /// A vector of some times an item.
+    ///
+    /// Fails only for want of memory.
+    pub fn from_elem(alloc: Global, item: T, n: usize) -> Result<UnitVec<T>>
+        requires { n < 2 ^ 31 }
+        ensures same { IfOk result (λ v. v.items ≡ replicate n item) }
+        ensures memory { OnErr result (result ≡ Err refusal.OutOfMemory) }
+    {
+        let mut v = UnitVec::with_capacity(alloc, n)?;
+        for _added in 0..n {
+            v.push_unchecked(item);
+        }
+        Ok(v)
+    }
+
+    /// The items of a vector, whose memory is kept where it has room for more than one.
+    pub fn from_vec(alloc: Global, mut v: Vec<T>) -> UnitVec<T>
+        requires { length v.items < 2 ^ 31 }
+        ensures { result ≡ short v.items (max 1 (vec_capacity v)) }
+    {
+        if v.capacity() <= 1 {
+            let inline = v.pop();
+            return UnitVec {
+                inline,
+                heap: empty(alloc),
+            };
+        }
+        UnitVec {
+            inline: None,
+            heap: v,
+        }
+    }
+
+    /// Copies of some items.
+    ///
+    /// Fails only for want of memory.
+    pub fn from_slice(alloc: Global, items: &[T]) -> Result<UnitVec<T>>
+        requires { length items.now < 2 ^ 31 }
+        ensures same { IfOk result (λ v. v.items ≡ items.now) }
+        ensures inline { length items.now ≤ 1 → IfOk result (λ v. v.capacity ≡ 1) × IsOk result }
+        ensures memory { OnErr result (result ≡ Err refusal.OutOfMemory) }
+    {
+        if items.len() <= 1 {
+            return Ok(UnitVec {
+                inline: items.first().copied(),
+                heap: empty(alloc),
+            });
+        }
+        let heap = Vec::from_slice(alloc, items)?;
+        Ok(UnitVec { inline: None, heap })
+    }
+
+    /// An equal vector.
+    ///
+    /// Fails only for want of memory.
+    pub fn try_clone(&self, alloc: Global) -> Result<UnitVec<T>>
+        requires { length self.now.items < 2 ^ 31 }
+        ensures same { IfOk result (λ v. v.items ≡ self.now.items) }
+        ensures memory { OnErr result (result ≡ Err refusal.OutOfMemory) }
+    {
+        match self.inline {
+            Some(item) => Ok(UnitVec {
+                inline: Some(item),
+                heap: empty(alloc),
+            }),
+            None => UnitVec::from_slice(alloc, self.heap.as_slice()),
+        }
+    }
+}
+
+/// A vector without items or room.
+fn empty<T>(alloc: Global) -> Vec<T>
+    ensures items { result.items ≡ [] }
+    ensures room { vec_capacity result ≤ 1 }
+{
+    Vec::new(alloc)
+}
+
+impl<T: Copy + fmt::Debug> fmt::Debug for UnitVec<T> {
+    fn fmt<W: fmt::Write>(&self, f: &mut fmt::Formatter<W>) -> fmt::Result {
+        match &self.inline {
+            Some(item) => write!(f, "UnitVec: [{item:?}]"),
+            None => {
+                let heap = self.heap.as_slice();
+                write!(f, "UnitVec: {heap:?}")
+            }
+        }
+    }
+}
+
+/// A vector of the items that are listed: `unitvec!(alloc)` without items and `unitvec!(alloc; item)`
+/// take no memory; `unitvec!(alloc; item; n)` of some times an item and `unitvec!(alloc; a, b, ..)`
+/// may fail for want of it.
+#[macro_export]
+macro_rules! unitvec {
+    ($alloc:expr) => {
+        $crate::unit_vec::UnitVec::new($alloc)
+    };
+    ($alloc:expr; $item:expr) => {
+        $crate::unit_vec::UnitVec::of_one($alloc, $item)
+    };
+    ($alloc:expr; $item:expr; $n:expr) => {
+        $crate::unit_vec::UnitVec::from_elem($alloc, $item, $n)
+    };
+    ($alloc:expr; $($item:expr),+ $(,)?) => {
+        $crate::unit_vec::UnitVec::from_slice($alloc, &[$($item),+])
+    };
+}

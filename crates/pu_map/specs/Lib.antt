@@ -1,0 +1,10 @@
+pub mod Keys
+pub mod Chains
+pub mod Links
+pub mod BytesMap
+pub mod Entry
+pub mod BytesMapLends
+pub mod Sketch
+pub mod Partitioned
+pub mod Cache
+pub mod CacheLends

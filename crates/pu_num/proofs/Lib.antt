@@ -1,0 +1,2 @@
+-- Lemmas that this crate's proofs share.
+mod Rounding

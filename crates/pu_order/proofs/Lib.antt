@@ -1,0 +1,3 @@
+-- Lemmas that this crate's proofs share.
+mod Carryless
+mod Hashes
