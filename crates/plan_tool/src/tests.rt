@@ -1,6 +1,7 @@
 // Runs of the program over sources and sinks in memory.
 use crate::functions::ToolFunctions;
 use crate::gate::NoGate;
+use crate::reading::MAX_DOCUMENT_BYTES;
 use crate::sink::{MemSink, StdSink};
 use crate::source::{MemSource, StdSource};
 use crate::tool::run_tool;
@@ -206,6 +207,27 @@ fn a_document_that_is_cut_is_none(rt: HostRuntime) -> Result<(), Fail> {
         };
         assert_eq!(rt; run(&rt, &given)?.status, 3);
     }
+    Ok(())
+}
+
+#[test]
+fn one_byte_too_many_is_too_long(rt: HostRuntime) -> Result<(), Fail> {
+    let spaces = vec![in rt.alloc(); b' '; MAX_DOCUMENT_BYTES + 1]?;
+    let given = Given {
+        document: spaces.as_slice(),
+        chunk: MAX_DOCUMENT_BYTES,
+        ..whole("")
+    };
+    let left = run(&rt, &given)?;
+    assert_eq!(rt; left.status, 8);
+    assert_eq!(rt; left.out.len(), 0);
+    assert_eq!(rt; left.err.as_slice(), "TooLong\n".as_bytes());
+    let given = Given {
+        document: &spaces.as_slice()[1..],
+        chunk: MAX_DOCUMENT_BYTES,
+        ..whole("")
+    };
+    assert_eq!(rt; run(&rt, &given)?.status, 3);
     Ok(())
 }
 
