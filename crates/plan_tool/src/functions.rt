@@ -18,7 +18,7 @@ pub struct ToolFunctions;
 impl Functions for ToolFunctions {
     ghost use Rattle.std.specs.Prelude.{Some, ◌==◌};
     ghost use Rattle.plan_tool.specs.ToolAnswers.{tool_answer};
-    ghost use Rattle.plan_tool.specs.ToolLaws.{answers_keep_schema, empty_streams, parts_stream};
+    ghost use Rattle.plan_tool.specs.ToolLaws.{answers_keep_rows, answers_keep_schema, empty_streams, parts_stream};
 
     ghost answer = { λ n f. Some (tool_answer n f) };
 
@@ -51,6 +51,8 @@ impl Functions for ToolFunctions {
     }
 
     ghost keeps_schema = { answers_keep_schema };
+
+    ghost keeps_rows = { answers_keep_rows };
 
     ghost streams_empty = { empty_streams };
 

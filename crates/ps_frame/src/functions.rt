@@ -1,6 +1,6 @@
 // Functions over tables that a user hands in.
 ghost use Rattle.std.specs.Prelude.{◌≡◌, ◌<◌, ℕ, Bool, true, Option, Some, None, IfOk, IsErrOf, IsSome, IsNone, OnErr, IsSomeAnd, Err, [], refl};
-ghost use Rattle.ps_frame.specs.Lawful.{empty_frame, stacked, stacked_answers};
+ghost use Rattle.ps_frame.specs.Lawful.{FitsFrame, empty_frame, stacked, stacked_answers};
 ghost use Rattle.ps_frame.specs.Tables.{Fields, Frame};
 
 use crate::frame::DataFrame;
@@ -47,6 +47,9 @@ pub trait Functions: Sync {
 
     /// An answer has the declared schema.
     ghost keeps_schema: { (n : ℕ) (f g : Frame) → answer n f ≡ Some g → declared n f.schema ≡ Some g.schema };
+
+    /// It answers a table whose rows fit their schema by such a table.
+    ghost keeps_rows: { (n : ℕ) (f g : Frame) → FitsFrame f → answer n f ≡ Some g → FitsFrame g };
 
     /// A function that streams gives the empty table for the empty one of a schema for which it declares one.
     ghost streams_empty: { (n : ℕ) (s : Fields) → streams n ≡ true → IsSome (declared n s) → IsSomeAnd (answer n (empty_frame s)) (λ g. g.rows ≡ []) };

@@ -4,6 +4,7 @@ use Rattle.std.specs.List.{AllByRecursion}
 use Rattle.ps_frame.specs.Causes.{Cause}
 use Rattle.ps_frame.specs.Frames.{has_distinct_names, kinds_of}
 use Rattle.ps_frame.specs.Functions.{Functions}
+pub use Rattle.ps_frame.specs.Lawful.{FitsKinds}
 use Rattle.ps_frame.specs.Tables.{Fields, Frame, Table, whole}
 use Rattle.ps_frame.specs.Values.{fits_kind}
 use Rattle.ps_frame.specs.declared.value.DataType.{DataType}
@@ -57,12 +58,6 @@ abbrev mutual
 -- this holds of the step of each reached node
 abbrev pub EachReached : (Step → Type 0) → Plan → Type 0
 EachReached P plan = (n : ℕ) → Reached plan n → IfSome (slice_get plan.nodes n) (λ e. P (entry_step (tree_at plan.exprs) e))
-
--- a value for each kind: null, or one of the kind
-abbrev pub FitsKinds : List DataType → List Value → Type 0
-FitsKinds [] [] = ⊤
-FitsKinds (k ∷ ks) (v ∷ vs) = IsTrue (fits_kind k v) × FitsKinds ks vs
-FitsKinds _ _ = ⊥
 
 abbrev pub FitsRow : Fields → List Value → Type 0
 FitsRow s row = FitsKinds (kinds_of s) row
