@@ -145,6 +145,53 @@ fn empty_slots<K, V>(
     Ok(slots)
 }
 
+fn cloned_slot<K: Clone, V: Clone>(
+    slot: &Option<CacheSlot<K, V>>,
+) -> std::result::Result<Option<CacheSlot<K, V>>, AllocError>
+    requires keys { (x y : K) → K.is_clone x y → y ≡ x }
+    requires values { (x y : V) → V.is_clone x y → y ≡ x }
+    ensures { IfOk result (λ copy. copy ≡ slot.now) }
+{
+    match slot {
+        Some(held) => Ok(Some(CacheSlot {
+            last_access: held.last_access,
+            key: held.key.clone()?,
+            value: held.value.clone()?,
+        })),
+        None => Ok(None),
+    }
+}
+
+fn cloned_slots<K: Clone, V: Clone>(
+    alloc: Global,
+    slots: &[Option<CacheSlot<K, V>>],
+) -> std::result::Result<Vec<Option<CacheSlot<K, V>>>, AllocError>
+    requires keys { (x y : K) → K.is_clone x y → y ≡ x }
+    requires values { (x y : V) → V.is_clone x y → y ≡ x }
+    ensures { IfOk result (λ copies. copies.items ≡ slots.now) }
+{
+    let mut copies = Vec::with_capacity(alloc, slots.len())?;
+    'slots: for slot in slots {
+        copies.push(cloned_slot(slot)?)?;
+    }
+    Ok(copies)
+}
+
+impl<K: Clone, V: Clone> FastFixedCache<K, V> {
+    /// An equal cache; clones have to equal their source. It fails only for want of memory.
+    pub fn try_clone(&self, alloc: Global) -> Result<FastFixedCache<K, V>>
+        requires keys { (x y : K) → K.is_clone x y → y ≡ x }
+        requires values { (x y : V) → V.is_clone x y → y ≡ x }
+        ensures equal { IfOk result (λ c. c ≡ self.now) }
+        ensures memory { OnErr result (result ≡ Err refusal.OutOfMemory) }
+    {
+        Ok(FastFixedCache {
+            slots: cloned_slots(alloc, &self.slots)?,
+            access_counter: self.access_counter,
+        })
+    }
+}
+
 impl<K: Hash + Eq, V> FastFixedCache<K, V> {
     ghost use Rattle.pu_map.specs.CacheLends.{lends_value, lends_hit, lends_found, ends_looked_up, lends_filled};
 

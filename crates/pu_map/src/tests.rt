@@ -142,6 +142,15 @@ fn a_cache_of_the_least_size(rt: HostRuntime) -> Result<(), Fail> {
 }
 
 #[test]
+fn a_cloned_cache_finds_the_same(rt: HostRuntime) -> Result<(), Fail> {
+    let mut cache = FastFixedCache::<u32, u32>::new(rt.alloc(), 0)?;
+    remember(&mut cache, 5, 1);
+    let mut copy = cache.try_clone(rt.alloc())?;
+    assert_eq!(rt; remembered(&mut copy, 5), Some(1));
+    Ok(())
+}
+
+#[test]
 fn maps_by_partition(rt: HostRuntime) -> Result<(), Fail> {
     let mut maps = Vec::new(rt.alloc());
     for _ in 0..4 {
