@@ -5,6 +5,7 @@ pub mod column;
 pub mod error;
 pub mod examples;
 pub mod expr;
+mod fields;
 pub mod frame;
 pub mod functions;
 pub mod laws;

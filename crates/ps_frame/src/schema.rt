@@ -4,27 +4,35 @@ ghost use Rattle.ps_frame.specs.Frames.{has_name, shared_name};
 ghost use Rattle.ps_frame.specs.Tables.{field_index};
 
 use crate::error::FrameError;
+use crate::fields::Fields;
 use crate::value::DataType;
 use pu_order::PlSmallStr;
-use std::alloc::{AllocError, Global};
+use std::alloc::Global;
 use std::marker::Model;
+use std::sync::Arc;
 
 /// Names, which differ, with their kinds.
 #[derive(Drop)]
 pub struct Schema {
-    fields: Vec<(PlSmallStr, DataType)>,
+    held: Held,
+}
+
+// Fields that a schema owns, or shares with other schemas.
+#[derive(Drop)]
+enum Held {
+    Own(Fields),
+    Shared(Arc<Fields>),
 }
 
 impl Model for Schema {
-    ghost use Rattle.std.specs.Prelude.{IsTrue, List, ℕ};
+    ghost use Rattle.std.specs.Prelude.{List, ℕ};
     ghost use Rattle.ps_frame.specs.declared.value.DataType.{DataType};
-    ghost use Rattle.ps_frame.specs.Frames.{has_distinct_names};
 
     ghost Value = { List (List ℕ × DataType) };
 
-    ghost view = { λ a. a.fields.items };
+    ghost use Rattle.ps_frame.specs.Held.{held_fields};
 
-    ghost invariant = { λ a. IsTrue (has_distinct_names a.fields.items) };
+    ghost view = { λ a. held_fields a.held };
 }
 
 impl Schema {
@@ -33,7 +41,37 @@ impl Schema {
         ensures { result ≡ [] }
     {
         Schema {
-            fields: Vec::new(alloc),
+            held: Held::Own(Fields::new(alloc)),
+        }
+    }
+
+    fn fields(&self) -> &Fields
+        ensures { result.now ≡ self.now }
+    {
+        match &self.held {
+            Held::Own(fields) => fields,
+            Held::Shared(fields) => &**fields,
+        }
+    }
+
+    /// The same schema. Where memory could be had for it, [`try_clone`](Schema::try_clone) shares its
+    /// fields from now on, and takes the same time however many there are.
+    pub fn into_shared(self, alloc: Global) -> Schema
+        ensures { result ≡ self }
+    {
+        let Schema { held } = self;
+        match held {
+            Held::Own(fields) => match Arc::new(alloc, fields) {
+                Ok(shared) => Schema {
+                    held: Held::Shared(shared),
+                },
+                Err(refused) => Schema {
+                    held: Held::Own(refused.value),
+                },
+            },
+            Held::Shared(shared) => Schema {
+                held: Held::Shared(shared),
+            },
         }
     }
 
@@ -41,14 +79,14 @@ impl Schema {
     pub fn len(&self) -> usize
         ensures { result ≡ length self.now }
     {
-        self.fields.len()
+        self.fields().as_slice().len()
     }
 
     /// Whether there is no field.
     pub fn is_empty(&self) -> bool
         ensures { IsTrue result ↔ (self.now ≡ []) }
     {
-        self.fields.is_empty()
+        self.fields().as_slice().is_empty()
     }
 
     /// The name of the field at a place.
@@ -56,7 +94,7 @@ impl Schema {
         requires { i < length self.now }
         ensures { option_map (λ f. f.0) (slice_get self.now i) ≡ Some result.now }
     {
-        &self.fields[i].0
+        &self.fields().as_slice()[i].0
     }
 
     /// The kind of the field at a place.
@@ -64,27 +102,27 @@ impl Schema {
         requires { i < length self.now }
         ensures { option_map (λ f. f.1) (slice_get self.now i) ≡ Some result }
     {
-        self.fields[i].1
+        self.fields().as_slice()[i].1
     }
 
     /// Where a name stands.
     pub fn index_of(&self, name: &str) -> Option<usize>
         ensures { result ≡ field_index name.now self.now }
     {
-        self.fields.iter().position(|f| f.0.eq_str(name))
+        self.fields().place(name)
     }
 
     /// Whether a name stands.
     pub fn contains(&self, name: &str) -> bool
         ensures { result ≡ has_name name.now self.now }
     {
-        self.fields.iter().any(|f| f.0.eq_str(name))
+        self.fields().contains(name)
     }
 
     /// One more field, refused where its name stands already or for want of memory.
     pub fn push(
         &mut self,
-        _alloc: Global,
+        alloc: Global,
         name: PlSmallStr,
         dtype: DataType,
     ) -> Result<(), FrameError>
@@ -96,18 +134,24 @@ impl Schema {
         if self.contains(name.as_str()) {
             return Err(FrameError::Duplicate { name });
         }
-        match self.append(name, dtype) {
+        match self.append(alloc, name, dtype) {
             Ok(()) => Ok(()),
             Err(_) => Err(FrameError::OutOfMemory),
         }
     }
 
-    fn append(&mut self, name: PlSmallStr, dtype: DataType) -> Result<(), AllocError>
+    fn append(&mut self, alloc: Global, name: PlSmallStr, dtype: DataType) -> Result<(), FrameError>
         requires { IsFalse (has_name name self.old) }
         ensures added { OnOk result (self.new ≡ self.old ++ (name, dtype) ∷ []) }
         ensures unchanged { OnErr result (self.new ≡ self.old) }
     {
-        self.fields.push((name, dtype))?;
+        if let Held::Own(fields) = &mut self.held {
+            fields.push(name, dtype)?;
+            return Ok(());
+        }
+        let mut fields = self.fields().try_clone(alloc)?;
+        fields.push(name, dtype)?;
+        self.held = Held::Own(fields);
         Ok(())
     }
 
@@ -118,8 +162,22 @@ impl Schema {
         ensures same { IfOk result (λ s. s ≡ self.now) }
         ensures memory { OnErr result (result ≡ Err FrameError.OutOfMemory) }
     {
-        let fields = clone_fields(alloc, self.fields.as_slice())?;
-        Ok(Schema { fields })
+        let held = match &self.held {
+            Held::Own(fields) => Held::Own(fields.try_clone(alloc)?),
+            Held::Shared(fields) => Held::Shared(fields.clone()?),
+        };
+        Ok(Schema { held })
+    }
+
+    /// An equal schema, as [`into_shared`](Schema::into_shared) gives it.
+    ///
+    /// Fails only for want of memory.
+    pub fn try_share(&self, alloc: Global) -> Result<Schema, FrameError>
+        ensures same { IfOk result (λ s. s ≡ self.now) }
+        ensures memory { OnErr result (result ≡ Err FrameError.OutOfMemory) }
+    {
+        let schema = self.try_clone(alloc)?;
+        Ok(schema.into_shared(alloc))
     }
 
     /// The fields of this schema, and then those of another one, which may share no name with it.
@@ -144,46 +202,18 @@ impl Schema {
         ensures fields { IfOk result (λ s. s ≡ self.now ++ other.now) }
         ensures memory { OnErr result (result ≡ Err FrameError.OutOfMemory) }
     {
-        let mut fields = clone_fields(alloc, self.fields.as_slice())?;
-        append_fields(alloc, &mut fields, other.fields.as_slice())?;
-        Ok(Schema { fields })
+        let fields = self.fields().beside(alloc, other.fields())?;
+        Ok(Schema {
+            held: Held::Own(fields),
+        })
     }
 
     /// Whether two schemas have the same names with the same kinds.
     pub fn same(&self, other: &Schema) -> bool
         ensures { IsTrue result ↔ (self.now ≡ other.now) }
     {
-        same_fields(self.fields.as_slice(), other.fields.as_slice())
+        same_fields(self.fields().as_slice(), other.fields().as_slice())
     }
-}
-
-fn clone_fields(
-    alloc: Global,
-    fields: &[(PlSmallStr, DataType)],
-) -> Result<Vec<(PlSmallStr, DataType)>, FrameError>
-    ensures same { IfOk result (λ copy. copy.items ≡ fields.now) }
-    ensures memory { OnErr result (result ≡ Err FrameError.OutOfMemory) }
-{
-    let mut copy = Vec::with_capacity(alloc, fields.len())?;
-    append_fields(alloc, &mut copy, fields)?;
-    Ok(copy)
-}
-
-fn append_fields(
-    alloc: Global,
-    copy: &mut Vec<(PlSmallStr, DataType)>,
-    fields: &[(PlSmallStr, DataType)],
-) -> Result<(), FrameError>
-    ensures added { OnOk result (copy.new.items ≡ copy.old.items ++ fields.now) }
-    ensures memory { OnErr result (result ≡ Err FrameError.OutOfMemory) }
-{
-    for field in fields {
-        let Ok(name) = field.0.try_clone(alloc) else {
-            return Err(FrameError::OutOfMemory);
-        };
-        copy.push((name, field.1))?;
-    }
-    Ok(())
 }
 
 // Where the first name stands in the other schema that stands in this one too.

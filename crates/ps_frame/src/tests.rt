@@ -180,3 +180,13 @@ fn refusals_are_shown_on_a_line(rt: HostRuntime) -> Result<(), Fail> {
     assert_eq!(rt; format!(in rt.alloc(); "{memory}")?.as_str(), "OutOfMemory");
     Ok(())
 }
+
+#[test]
+fn a_copy_of_a_shared_schema_grows_alone(rt: HostRuntime) -> Result<(), Fail> {
+    let shared = schema_of(rt.alloc(), "a")?.into_shared(rt.alloc());
+    let mut copy = shared.try_clone(rt.alloc())?;
+    copy.push(rt.alloc(), text(rt.alloc(), "b")?, DataType::String)?;
+    assert_eq!(rt; copy.len(), 2);
+    assert_eq!(rt; shared.len(), 1);
+    Ok(())
+}
