@@ -1,4 +1,9 @@
 pub mod SmallCases
+pub mod Acyclic
+pub mod Complete
+pub mod ValidPlans
+pub mod CleanPlans
+pub mod TypedSteps
 pub mod Arenas
 pub mod CacheRow
 pub mod Doubling
