@@ -3,6 +3,7 @@ use Rattle.std.proofs.Common.{◌≡◌, ◌≢◌, ℕ, zero, suc, ◌<◌, ◌
 use Rattle.std.specs.Prelude.{Bool, true, false, ◌&&◌, ◌||◌, Any, Option, Some, None, unwrap_or}
 use Rattle.std.specs.List.{AllByRecursion}
 use Rattle.std.specs.Str.{bytes_eq}
+use Rattle.std.proofs.lemmas.Option.{same_Some}
 use Rattle.std.proofs.lemmas.Slice.Eq.{bytes_eq-Decides}
 use Rattle.ps_frame.specs.Frames.{has_distinct_names}
 use Rattle.ps_frame.specs.Functions.{Functions}
@@ -43,7 +44,16 @@ same_name-or a b = by (bytes_eq a b) refl
     by true q = inl ((bytes_eq-Decides a b).0 q)
     by false q = inr (λ e. let t = (bytes_eq-Decides a b).1 e in cc)
 
+front : Name × DataType → Fields → Name × DataType
+front g [] = g
+front g (f ∷ s) = f
+
+rest : Fields → Fields
+rest [] = []
+rest (f ∷ s) = s
+
 same_schema-or : (s t : Fields) → (s ≡ t) ⊎ (s ≢ t)
+unfolding front rest
 same_schema-or [] [] = inl refl
 same_schema-or [] (g ∷ t) = inr (λ e. cc)
 same_schema-or (f ∷ s) [] = inr (λ e. cc)
@@ -51,9 +61,9 @@ same_schema-or ((n, j) ∷ s) ((m, k) ∷ t) = by (same_name-or n m) (same_kind-
   where
     by : (n ≡ m) ⊎ (n ≢ m) → (j ≡ k) ⊎ (j ≢ k) → (s ≡ t) ⊎ (s ≢ t) → ((n, j) ∷ s ≡ (m, k) ∷ t) ⊎ ((n, j) ∷ s ≢ (m, k) ∷ t)
     by (inl a) (inl b) (inl c) = inl (λ i. (a i, b i) ∷ c i)
-    by (inr a) b c = inr (λ e. a (cc))
-    by (inl a) (inr b) c = inr (λ e. b (cc))
-    by (inl a) (inl b) (inr c) = inr (λ e. c (cc))
+    by (inr a) b c = inr (λ e. a (ap (λ s. (front (n, j) s).0) e))
+    by (inl a) (inr b) c = inr (λ e. b (ap (λ s. (front (n, j) s).1) e))
+    by (inl a) (inl b) (inr c) = inr (λ e. c (ap rest e))
 
 none-differs : (s : Fields) (ss : List Fields) → (Any (λ t. t ≢ s) ss → ⊥) → AllByRecursion (λ t. t ≡ s) ss
 none-differs s [] h = tt
@@ -86,12 +96,12 @@ module _ (F : Functions) where
 -- named expressions have the names of their fields
 names-of_fields : (es : List Named) (s : Fields) (out : Fields) → fields_of es s ≡ Some out → names_of out ≡ expr_names es
 names-of_fields [] s out e = let q : [] ≡ out = cc in ap names_of (sym q)
-names-of_fields ((n, t) ∷ es) s out e = by (kind_over s t) (fields_of es s) refl e
+names-of_fields ((n, t) ∷ es) s out e = by (kind_over s t) (fields_of es s) refl e (λ fs q. names-of_fields es s fs q)
   where
-    by : (o : Option DataType) (r : Option Fields) → fields_of es s ≡ r → both (λ k fs. (n, k) ∷ fs) o r ≡ Some out → names_of out ≡ n ∷ expr_names es
-    by None r q h = cc
-    by (Some k) None q h = cc
-    by (Some k) (Some fs) q h = ?
+    by : (o : Option DataType) (r : Option Fields) → fields_of es s ≡ r → both (λ (k : DataType) (fs : Fields). (n, k) ∷ fs) o r ≡ Some out → ((fs : Fields) → fields_of es s ≡ Some fs → names_of fs ≡ expr_names es) → names_of out ≡ n ∷ expr_names es
+    by None r q h later = cc
+    by (Some k) None q h later = cc
+    by (Some k) (Some fs) q h later = ap names_of (sym (same_Some _ _ h)) ∙ ap (λ ns. n ∷ ns) (later fs q)
 
 named-distinct : (es : List Named) (s : Fields) → ((n : Name) → repeats n (expr_names es) ≡ true → ⊥) → has_distinct_names (unwrap_or (fields_of es s) []) ≡ true
 named-distinct es s h = by (fields_of es s) refl
@@ -102,22 +112,22 @@ named-distinct es s h = by (fields_of es s) refl
 
 module _ (F : Functions) where
   output-distinct : (step : Step) (ss : List Fields) → ((R : Refusal) → ¬ TypingRefused F step ss R) → has_distinct_names (schema_or_empty F step ss) ≡ true
-  output-distinct (scan f ns) ss rules = distinct-from _ (λ n r. rules (duplicate n) (inr r))
-  output-distinct (project ns) ss rules = distinct-from _ (λ n r. rules (duplicate n) (inr r))
+  output-distinct (scan f ns) ss rules = distinct-from (schema_or_empty F (scan f ns) ss) (λ n r. rules (duplicate n) (inr r))
+  output-distinct (project ns) ss rules = distinct-from (schema_or_empty F (project ns) ss) (λ n r. rules (duplicate n) (inr r))
   output-distinct (select es) ss rules = named-distinct es (first_schema ss) (λ n r. rules (duplicate n) (inr r))
-  output-distinct (hstack es) ss rules = distinct-from _ (λ n r. rules (duplicate n) (inr r))
-  output-distinct (filter e) ss rules = distinct-from _ (λ n r. rules (duplicate n) (inr r))
-  output-distinct (slice offset n) ss rules = distinct-from _ (λ n r. rules (duplicate n) (inr r))
-  output-distinct (sink payload) ss rules = distinct-from _ (λ n r. rules (duplicate n) (inr r))
-  output-distinct (row_index name offset) ss rules = distinct-from _ (λ n r. rules (duplicate n) (inr r))
-  output-distinct (user n) ss rules = distinct-from _ (λ n r. rules (duplicate n) (inr r))
-  output-distinct (sort o) ss rules = distinct-from _ (λ n r. rules (duplicate n) (inr r))
-  output-distinct (union cut) ss rules = distinct-from _ (λ n r. rules (duplicate n) (inr r))
-  output-distinct hconcat ss rules = distinct-from _ (λ n r. rules (duplicate n) (inr r))
-  output-distinct (cache id) ss rules = distinct-from _ (λ n r. rules (duplicate n) (inr r))
+  output-distinct (hstack es) ss rules = distinct-from (schema_or_empty F (hstack es) ss) (λ n r. rules (duplicate n) (inr r))
+  output-distinct (filter e) ss rules = distinct-from (schema_or_empty F (filter e) ss) (λ n r. rules (duplicate n) (inr r))
+  output-distinct (slice offset n) ss rules = distinct-from (schema_or_empty F (slice offset n) ss) (λ n r. rules (duplicate n) (inr r))
+  output-distinct (sink payload) ss rules = distinct-from (schema_or_empty F (sink payload) ss) (λ n r. rules (duplicate n) (inr r))
+  output-distinct (row_index name offset) ss rules = distinct-from (schema_or_empty F (row_index name offset) ss) (λ n r. rules (duplicate n) (inr r))
+  output-distinct (user n) ss rules = distinct-from (schema_or_empty F (user n) ss) (λ n r. rules (duplicate n) (inr r))
+  output-distinct (sort o) ss rules = distinct-from (schema_or_empty F (sort o) ss) (λ n r. rules (duplicate n) (inr r))
+  output-distinct (union cut) ss rules = distinct-from (schema_or_empty F (union cut) ss) (λ n r. rules (duplicate n) (inr r))
+  output-distinct hconcat ss rules = distinct-from (schema_or_empty F hconcat ss) (λ n r. rules (duplicate n) (inr r))
+  output-distinct (cache id) ss rules = distinct-from (schema_or_empty F (cache id) ss) (λ n r. rules (duplicate n) (inr r))
   output-distinct (group_by o) ss rules = named-distinct (o.keys ++ o.aggregates) (first_schema ss) (λ n r. rules (duplicate n) (inr r))
-  output-distinct (join o) ss rules = distinct-from _ (λ n r. rules (duplicate n) (inr r))
-  output-distinct (distinct o) ss rules = distinct-from _ (λ n r. rules (duplicate n) (inr r))
+  output-distinct (join o) ss rules = distinct-from (schema_or_empty F (join o) ss) (λ n r. rules (duplicate n) (inr r))
+  output-distinct (distinct o) ss rules = distinct-from (schema_or_empty F (distinct o) ss) (λ n r. rules (duplicate n) (inr r))
   output-distinct (left_out what) ss rules = refl
 
   clean-distinct : (plan : Plan) (t : PlanTree) → IsClean F plan t → has_distinct_names (tree_schema F t) ≡ true

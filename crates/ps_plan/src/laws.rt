@@ -6,7 +6,7 @@ ghost use Rattle.ps_frame.specs.Trees.{IsExpression};
 ghost use Rattle.ps_frame.specs.Zip.{zipped};
 ghost use Rattle.ps_plan.specs.Cases.{Case};
 ghost use Rattle.ps_plan.specs.Graph.{ExprReachesItself, HasNoCircle, IsInRange, Path, Reached, operands_at};
-ghost use Rattle.ps_plan.specs.Laws.{AnswersFit, EachReached, EachStep, FitsTable, FixesOrder, HoldsId, IsBuilt, IsTyped, SameCauses, StandsOver};
+ghost use Rattle.ps_plan.specs.Laws.{AnswersFit, EachReached, EachStep, FitsTable, FixesOrder, HoldsFitting, HoldsId, IsBuilt, IsTyped, SameCauses, StandsOver};
 ghost use Rattle.ps_plan.specs.Meaning.{Choice, IsMeaning, IsWholeMeaning, Means};
 ghost use Rattle.ps_plan.specs.Plans.{IsCompletePlan, Plan, PlanTree, tree_of};
 ghost use Rattle.ps_plan.specs.Refusals.{IsValid};
@@ -56,4 +56,14 @@ pub fn trees_are_complete()
     ensures expressions { (plan : Plan) (e : ℕ) → ((m : ℕ) → Path (operands_at plan) e m → ¬ ExprReachesItself plan m) → ((m : ℕ) → Path (operands_at plan) e m → m < length plan.exprs) → IsExpression plan.exprs (record { 0 = e }) }
     ensures nodes { (plan : Plan) (n : ℕ) → HasNoCircle plan n → IsInRange plan n → IsCompletePlan (tree_of plan n) }
     ensures of_valid_plans { (F : Functions) (plan : Plan) (n : ℕ) → IsValid F plan → Reached plan n → IsCompletePlan (tree_of plan n) }
+{}
+
+/// Each step of a node that a valid plan reaches is typed, where each scan that is reached holds a table that fits its schema.
+pub fn valid_plans_are_typed()
+    ensures { (F : Functions) (plan : Plan) (n : ℕ) → IsValid F plan → EachReached HoldsFitting plan → Reached plan n → IsTyped F (tree_of plan n) }
+{}
+
+/// The rows that a node of a valid plan means have the values that its schema says, where the tables of scans and the answers of functions do.
+pub fn valid_plans_rows_fit()
+    ensures { (F : Functions) (choice : Choice) (plan : Plan) (n : ℕ) (T : Table) → IsLawful F → AnswersFit F → IsValid F plan → EachReached HoldsFitting plan → Reached plan n → Means F choice (tree_of plan n) T → FitsTable T }
 {}
