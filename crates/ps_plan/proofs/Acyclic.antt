@@ -1,8 +1,7 @@
 -- What holds wherever it holds of all that is next, where nothing reaches itself and all is in range: the numbers that may still be met get fewer with each step.
-use Rattle.std.proofs.Common.{◌≡◌, ◌≢◌, ℕ, zero, suc, ◌+◌, ◌<◌, ◌≤◌, ◌⊎◌, inl, inr, List, [], ◌∷◌, length, refl, sym, subst, ap, arith}
-use Rattle.std.specs.Prelude.{Bool, true, false, ◌==◌, if◌then◌else◌, Contains, ⊤}
+use Rattle.std.proofs.Common.{◌≡◌, ◌≢◌, ℕ, zero, suc, ◌<◌, ◌≤◌, ◌⊎◌, inl, inr, List, [], ◌∷◌, length, refl, subst, ap, arith}
+use Rattle.std.specs.Prelude.{Contains}
 use Rattle.ps_plan.specs.Graph.{Path, Leads, here, onward}
-use Rattle.ps_plan.proofs.ReachedSteps.{path-then}
 
 abbrev In : ℕ → List ℕ → Type 0
 In n [] = ⊥

@@ -1,22 +1,20 @@
 -- No refusal holds at or below a node that a valid plan reaches: so the rules on names and kinds, which are decided there, hold.
-use Rattle.std.proofs.Common.{◌≡◌, ℕ, ◌<◌, List, [], ◌∷◌, length, slice_get, refl, sym, subst, inl, inr}
-use Rattle.std.specs.Prelude.{Option, Some, None, IfSome, IsSomeAnd, Contains}
+use Rattle.std.proofs.Common.{◌≡◌, ℕ, List, [], ◌∷◌, length, slice_get, sym, subst, inl, inr}
+use Rattle.std.specs.Prelude.{Option, Some, IsSomeAnd, Contains}
 use Rattle.std.specs.List.{AllByRecursion}
 use Rattle.pu_index.specs.declared.arena.Node.{Node}
 use Rattle.ps_frame.specs.Functions.{Functions}
 use Rattle.ps_frame.specs.Trees.{IsComplete, tree_at}
-use Rattle.ps_frame.specs.declared.refusal.Why.TheVariants as why
 use Rattle.ps_plan.specs.Graph.{Reached, inputs_at, named_by}
-use Rattle.ps_plan.specs.Plans.{AreCompletePlans, IsCompletePlan, Plan, PlanTree, PlanTrees, node, node_tree, plan_at, plan_trees_of, tree_of}
-use Rattle.ps_plan.specs.Refusals.{AreClean, EntryIs, GraphRefused, HasOwnNumbers, IsClean, IsValid, NamesMissingFunction, Refusal, TreeRefused, TypingRefused, function_missing, invalid_plan}
-use Rattle.ps_plan.specs.Schemas.{tree_schemas}
-use Rattle.ps_plan.specs.Steps.{Step, entry_inputs, entry_step, step_exprs}
+use Rattle.ps_plan.specs.Plans.{Plan, PlanTree, PlanTrees, node, plan_at, plan_trees_of, tree_of}
+use Rattle.ps_plan.specs.Refusals.{AreClean, IsClean, IsValid, NamesMissingFunction, TreeRefused, function_missing}
+use Rattle.ps_plan.specs.Steps.{entry_inputs, entry_step, step_exprs}
 use Rattle.ps_plan.specs.declared.ir.IR.{IR}
 use Rattle.ps_plan.proofs.Acyclic.{each-acyclic}
 use Rattle.ps_plan.proofs.Complete.{numbers, there}
 use Rattle.ps_plan.proofs.ReachedSteps.{contains-first, contains-later, path-then}
 use Rattle.ps_plan.proofs.Unfolding.{complete-is, plan_at-is}
-use Rattle.ps_plan.proofs.ValidPlans.{has-shape, in-range, no-circle, reached-below, reached-complete}
+use Rattle.ps_plan.proofs.ValidPlans.{has-shape, in-range, no-circle, reached-complete}
 
 -- A valid plan's reached node n with the entry e: its tree is made of those of its inputs, which are reached too.
 module _ (F : Functions) (plan : Plan) (valid : IsValid F plan) where
@@ -46,10 +44,11 @@ module _ (F : Functions) (plan : Plan) (valid : IsValid F plan) where
   clean-node : (n : ℕ) (e : IR) → Reached plan n → slice_get plan.nodes n ≡ Some e → AreClean F plan (inputs_of e) → IsClean F plan (tree_of plan n)
   clean-node n e reached is below =
       let q = reached-is n e reached is in
-      subst (IsClean F plan) (sym q)
-      (below,
-      (λ R g. valid n R (record { reached = reached; because = inl g })),
-      (λ R t. valid n R (record { reached = reached; because = inr (subst (λ (t : PlanTree). TreeRefused F plan t R) (sym q) (below, (own-complete n e reached is, has-functions n e reached is), t)) })))
+      subst (IsClean F plan) (sym q) (
+        below,
+        (λ R g. valid n R (record { reached = reached; because = inl g })),
+        (λ R t. valid n R (record { reached = reached; because = inr (subst (λ (t : PlanTree). TreeRefused F plan t R) (sym q) (below, (own-complete n e reached is, has-functions n e reached is), t)) })),
+      )
 
   -- induction along the inputs of reached nodes
   module _ (Q : ℕ → Type 0) (step : (n : ℕ) (e : IR) → Reached plan n → slice_get plan.nodes n ≡ Some e → ((m : Node) → Contains (numbers (entry_inputs e)) m.0 → Q m.0) → Q n) where

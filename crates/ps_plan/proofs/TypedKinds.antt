@@ -1,18 +1,14 @@
 -- An expression of which no part is left out, and of which no rule on names or kinds is broken, has a kind.
-use Rattle.std.proofs.Common.{◌≡◌, ℕ, zero, suc, ◌<◌, ◌++◌, List, [], ◌∷◌, length, slice_get, refl, sym, ap, subst, ◌∙◌, inl, inr, arith}
-use Rattle.std.specs.Prelude.{Bool, true, false, not, ◌&&◌, ◌||◌, Option, Some, None, is_some, is_none, Contains, IfSome, ⊤}
-use Rattle.std.specs.List.{AllByRecursion, list_any}
-use Rattle.std.specs.Str.{bytes_eq}
+use Rattle.std.proofs.Common.{◌≡◌, ℕ, suc, ◌<◌, ◌++◌, List, [], ◌∷◌, length, slice_get, refl, ap, arith}
+use Rattle.std.specs.Prelude.{true, false, not, ◌||◌, Option, Some, None, Contains}
+use Rattle.std.specs.List.{AllByRecursion}
 use Rattle.pu_index.specs.declared.arena.Node.{Node}
 use Rattle.ps_frame.proofs.Lists.{and_both}
-use Rattle.ps_frame.proofs.Typings.{kinds-exact}
-use Rattle.ps_frame.specs.Frames.{has_name}
-use Rattle.ps_frame.specs.Functions.{Functions}
-use Rattle.ps_frame.specs.Parts.{is_column_of, reads_column, some_part, tree_parts, trees_parts}
-use Rattle.ps_frame.specs.Refusals.{breaks_rule, is_accepted, is_left_out, is_missing, is_refused, is_unknown}
-use Rattle.ps_frame.specs.Tables.{Fields, field_kind}
+use Rattle.ps_frame.specs.Parts.{tree_parts, trees_parts}
+use Rattle.ps_frame.specs.Refusals.{is_accepted, is_left_out, is_missing, is_refused}
+use Rattle.ps_frame.specs.Tables.{Fields}
 use Rattle.ps_frame.specs.Trees.{Tree, Trees, aggregate_tree, entry_tree, tree_at, tree_within, trees_of}
-use Rattle.ps_frame.specs.Typing.{every_part_of_all, kind_over}
+use Rattle.ps_frame.specs.Typing.{every_part_of_all}
 use Rattle.ps_frame.specs.declared.expr.AExpr.{AExpr}
 use Rattle.ps_frame.specs.declared.expr.AExpr.TheVariants as expr
 use Rattle.ps_frame.specs.declared.expr.IRAggExpr.{IRAggExpr}
@@ -20,15 +16,9 @@ use Rattle.ps_frame.specs.declared.expr.IRAggExpr.TheVariants as agg
 use Rattle.ps_frame.specs.declared.expr.What.{What}
 use Rattle.ps_plan.specs.Graph.{Path, aggregate_operand, here, named_by, operands, operands_at}
 use Rattle.ps_plan.specs.Plans.{Plan}
-use Rattle.ps_plan.specs.Refusals.{Refusal, TypingRefused, break_rules, column_not_found, lacks_column, schema_mismatch}
-use Rattle.ps_plan.specs.Schemas.{first_schema, second_schema}
-use Rattle.ps_plan.specs.Sound.{have_all_kinds, have_kinds_over}
-use Rattle.ps_plan.specs.Steps.{Name, Step, scan, project, select, hstack, filter, slice, sink, row_index, user, sort, union, hconcat, cache, group_by, join, distinct, left_out, exprs_of, step_exprs}
 use Rattle.ps_plan.proofs.Acyclic.{AllBelow, NoCircleFrom, each-acyclic}
 use Rattle.ps_plan.proofs.Complete.{all-both, numbers, there}
-use Rattle.ps_plan.proofs.MeaningFits.{kind-some}
 use Rattle.ps_plan.proofs.ReachedSteps.{contains-first, contains-later, path-then}
-use Rattle.ps_plan.proofs.StepFits.{or-parts, same-name}
 
 -- no part is left out, and none is missing
 abbrev pub IsBuiltPart : Tree → Type 0

@@ -1,6 +1,6 @@
 -- What clean inputs and no refusal tell of a step: distinct names, and inputs of a union that are alike.
-use Rattle.std.proofs.Common.{◌≡◌, ◌≢◌, ℕ, zero, suc, ◌<◌, ◌⊎◌, inl, inr, ◌++◌, List, [], ◌∷◌, length, refl, sym, ap, subst, arith, ◌∙◌}
-use Rattle.std.specs.Prelude.{Bool, true, false, ◌&&◌, ◌||◌, Any, Option, Some, None, unwrap_or}
+use Rattle.std.proofs.Common.{◌≡◌, ◌≢◌, suc, ◌⊎◌, inl, inr, ◌++◌, List, [], ◌∷◌, refl, sym, ap, subst, arith, ◌∙◌}
+use Rattle.std.specs.Prelude.{Bool, true, false, Any, Option, Some, None, unwrap_or}
 use Rattle.std.specs.List.{AllByRecursion}
 use Rattle.std.specs.Str.{bytes_eq}
 use Rattle.std.proofs.lemmas.Option.{same_Some}
@@ -14,7 +14,7 @@ use Rattle.ps_frame.specs.declared.value.DataType.TheVariants as kind
 use Rattle.ps_plan.specs.Laws.{AreAlike}
 use Rattle.ps_plan.specs.Plans.{Plan, PlanTree, PlanTrees, node, missing, no_trees, tree}
 use Rattle.ps_plan.specs.Refusals.{AreClean, IsClean, Refusal, TypingRefused, duplicate, repeats, schema_mismatch}
-use Rattle.ps_plan.specs.Schemas.{both, expr_names, fields_of, first_schema, names_of, output_names, schema_or_empty, tree_schema, tree_schemas}
+use Rattle.ps_plan.specs.Schemas.{both, expr_names, fields_of, first_schema, names_of, schema_or_empty, tree_schema, tree_schemas}
 use Rattle.ps_plan.specs.Steps.{Name, Named, Step, scan, project, select, hstack, filter, slice, sink, row_index, user, sort, union, hconcat, cache, group_by, join, distinct, left_out}
 use Rattle.ps_plan.proofs.HStackFits.{distinct-from}
 

@@ -1,9 +1,8 @@
 -- What no refusal at a reached node tells of it: its numbers are in range, nothing reaches itself, and its tree is complete.
-use Rattle.std.proofs.Common.{◌≡◌, ℕ, ◌<◌, ◌≤◌, ◌⊎◌, inl, inr, zero, suc, List, length, refl, arith}
-use Rattle.std.specs.Prelude.{Contains}
+use Rattle.std.proofs.Common.{ℕ, ◌<◌, ◌≤◌, ◌⊎◌, inl, inr, zero, suc, List, length, refl, arith}
 use Rattle.ps_frame.specs.Functions.{Functions}
 use Rattle.ps_frame.specs.declared.refusal.Why.TheVariants as why
-use Rattle.ps_plan.specs.Graph.{ExprReachesItself, HasNoCircle, IsInRange, Names, Path, Reached, ReachesItself, here, inputs_at, onward}
+use Rattle.ps_plan.specs.Graph.{HasNoCircle, IsInRange, Path, Reached, here, inputs_at, onward}
 use Rattle.ps_plan.specs.Plans.{IsCompletePlan, Plan, tree_of}
 use Rattle.ps_plan.specs.Refusals.{IsMisshapen, IsValid, expr_in_circle, expr_missing, in_circle, input_missing, invalid_plan, root_missing}
 use Rattle.ps_plan.proofs.Complete.{node-is-complete}

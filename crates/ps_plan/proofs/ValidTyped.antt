@@ -1,6 +1,6 @@
 -- Each step of a valid plan's reached node is typed.
-use Rattle.std.proofs.Common.{◌≡◌, ℕ, zero, suc, ◌<◌, ◌++◌, List, [], ◌∷◌, length, slice_get, refl, sym, ap, subst, ◌∙◌, inl, inr, arith}
-use Rattle.std.specs.Prelude.{Bool, true, false, not, ◌&&◌, ◌||◌, Option, Some, None, is_some, is_none, Contains, IfSome, ⊤}
+use Rattle.std.proofs.Common.{◌≡◌, ℕ, ◌++◌, List, [], ◌∷◌, slice_get, refl, sym, subst, ◌∙◌, inl, inr}
+use Rattle.std.specs.Prelude.{Bool, true, false, not, ◌&&◌, ◌||◌, Option, Some, None, is_some, is_none, Contains, IfSome}
 use Rattle.std.specs.List.{AllByRecursion, list_any}
 use Rattle.std.specs.Str.{bytes_eq}
 use Rattle.pu_index.specs.declared.arena.Node.{Node}
@@ -9,16 +9,14 @@ use Rattle.ps_frame.proofs.Typings.{kinds-exact}
 use Rattle.ps_frame.specs.Frames.{has_name}
 use Rattle.ps_frame.specs.Functions.{Functions}
 use Rattle.ps_frame.specs.Parts.{is_column_of, reads_column, some_part, tree_parts}
-use Rattle.ps_frame.specs.Refusals.{breaks_rule, is_left_out, is_missing, is_refused, is_unknown}
+use Rattle.ps_frame.specs.Refusals.{breaks_rule, is_left_out, is_missing, is_unknown}
 use Rattle.ps_frame.specs.Tables.{Fields, field_kind}
 use Rattle.ps_frame.specs.Trees.{Tree, tree_at}
 use Rattle.ps_frame.specs.Typing.{kind_over}
-use Rattle.ps_frame.specs.declared.expr.AExpr.TheVariants as expr
-use Rattle.ps_frame.specs.declared.expr.What.{What}
-use Rattle.ps_plan.specs.Graph.{Names, Path, here, Reached, exprs_at, named_by, operands_at}
+use Rattle.ps_plan.specs.Graph.{here, Reached, exprs_at, named_by}
 use Rattle.ps_plan.specs.Laws.{AreTyped, EachReached, HoldsFitting, IsTyped, IsTypedStep}
-use Rattle.ps_plan.specs.Plans.{Plan, PlanTree, PlanTrees, plan_at, plan_trees_of, tree_of}
-use Rattle.ps_plan.specs.Refusals.{AreClean, IsClean, IsValid, Refusal, TypingRefused, break_rules, column_not_found, expr_left_out, lacks_column, pairs_differ, schema_mismatch, unsupported}
+use Rattle.ps_plan.specs.Plans.{Plan, plan_at, plan_trees_of, tree_of}
+use Rattle.ps_plan.specs.Refusals.{IsClean, IsValid, Refusal, TypingRefused, break_rules, column_not_found, expr_left_out, lacks_column, pairs_differ, schema_mismatch, unsupported}
 use Rattle.ps_plan.specs.Schemas.{first_schema, second_schema, tree_schemas}
 use Rattle.ps_plan.specs.Sound.{have_all_kinds, have_kinds_over}
 use Rattle.ps_plan.specs.Steps.{Name, Step, scan, project, select, hstack, filter, slice, sink, row_index, user, sort, union, hconcat, cache, group_by, join, distinct, left_out, entry_exprs, entry_inputs, entry_step, exprs_of, step_exprs}
@@ -29,7 +27,7 @@ use Rattle.ps_plan.proofs.Complete.{exprs-each, numbers}
 use Rattle.ps_plan.proofs.MeaningFits.{kind-some}
 use Rattle.ps_plan.proofs.ReachedSteps.{contains-first, contains-later}
 use Rattle.ps_plan.proofs.StepFits.{or-parts, same-name}
-use Rattle.ps_plan.proofs.TypedKinds.{AreBuilt, AreFree, IsBuiltTree, IsFree, accepted, all-left, all-right, expr-built}
+use Rattle.ps_plan.proofs.TypedKinds.{AreBuilt, AreFree, IsBuiltTree, accepted, all-left, all-right, expr-built}
 use Rattle.ps_plan.proofs.TypedSteps.{alike, inputs-distinct}
 use Rattle.ps_plan.proofs.ValidPlans.{in-range, no-circle}
 
@@ -77,10 +75,11 @@ module _ (s : Fields) where
   free : (ps : List Tree) → AreBuilt ps → list_any (breaks_rule s) ps ≡ false → ((n : Name) → (list_any (is_column_of n) ps && not (has_name n s)) ≡ true → ⊥) → AreFree s ps
   free [] built rules names = tt
   free (p ∷ ps) built rules names =
-      let parts = or-parts (breaks_rule s p) (list_any (breaks_rule s) ps) rules in
-      (or-false (is_unknown s p) _ (known p (λ n. reads-first (is_column_of n p) (list_any (is_column_of n) ps) (not (has_name n s)) (names n)))
-      (or-false (breaks_rule s p) (is_left_out p || is_missing p) parts.0 built.0),
-      free ps built.1 parts.1 (λ n. reads-later (is_column_of n p) (list_any (is_column_of n) ps) (not (has_name n s)) (names n)))
+      let parts = or-parts (breaks_rule s p) (list_any (breaks_rule s) ps) rules in (
+        or-false (is_unknown s p) _ (known p (λ n. reads-first (is_column_of n p) (list_any (is_column_of n) ps) (not (has_name n s)) (names n)))
+            (or-false (breaks_rule s p) (is_left_out p || is_missing p) parts.0 built.0),
+        free ps built.1 parts.1 (λ n. reads-later (is_column_of n p) (list_any (is_column_of n) ps) (not (has_name n s)) (names n)),
+      )
 
   exprs-kinds : (es : List Tree) → AllByRecursion IsBuiltTree es → break_rules s es ≡ false → ((n : Name) → lacks_column n s es ≡ true → ⊥) → have_all_kinds s es ≡ true
   exprs-kinds [] built rules names = refl
@@ -149,10 +148,11 @@ module _ (F : Functions) (plan : Plan) (valid : IsValid F plan) where
     typed-node : (n : ℕ) (x : IR) → Reached plan n → slice_get plan.nodes n ≡ Some x → ((m : Node) → Contains (numbers (entry_inputs x)) m.0 → IsTyped F (tree_of plan m.0)) → IsTyped F (tree_of plan n)
     typed-node n x reached is all =
         let q = reached-is F plan valid n x reached is in
-        subst (IsTyped F) (sym q)
-        (typed-step n x reached is (subst (IsClean F plan) q (reached-clean F plan valid n reached)),
-        subst (λ (o : Option IR). IfSome o (λ x. HoldsFitting (entry_step (tree_at plan.exprs) x))) is (holds n reached),
-        typed-inputs (entry_inputs x) all)
+        subst (IsTyped F) (sym q) (
+          typed-step n x reached is (subst (IsClean F plan) q (reached-clean F plan valid n reached)),
+          subst (λ (o : Option IR). IfSome o (λ x. HoldsFitting (entry_step (tree_at plan.exprs) x))) is (holds n reached),
+          typed-inputs (entry_inputs x) all,
+        )
 
     pub reached-typed : (n : ℕ) → Reached plan n → IsTyped F (tree_of plan n)
     reached-typed = each-reached F plan valid (λ n. IsTyped F (tree_of plan n)) typed-node
