@@ -1,14 +1,17 @@
 -- Plans as arenas, which unfold by computing to the plans of the other files.
-use Rattle.std.proofs.Common.{◌≡◌, false, [], ◌∷◌, None, pos, refl}
+use Rattle.std.proofs.Common.{◌≡◌, ◌++◌, ◌∙◌, ap, length, ℕ, ℤ, false, List, [], ◌∷◌, None, pos, refl}
 use Rattle.std.specs.Global.{Vec}
 use Rattle.std.specs.Prelude.{codes}
 use Rattle.pu_index.specs.declared.arena.Node.{Node}
 use Rattle.ps_frame.specs.Trees.{tree_within}
+use Rattle.ps_frame.specs.declared.expr.AExpr.{AExpr}
 use Rattle.ps_frame.specs.declared.expr.AExpr.TheVariants as expr
 use Rattle.ps_frame.specs.declared.expr.LiteralValue.TheVariants as lit
 use Rattle.ps_frame.specs.declared.expr.Operator.TheVariants as op
+use Rattle.ps_frame.specs.declared.expr.What.{What}
 use Rattle.ps_plan.specs.Plans.{IsPlan, Plan, plan_within, tree_of}
 use Rattle.ps_plan.specs.declared.ir.ExprIR.{ExprIR}
+use Rattle.ps_plan.specs.declared.ir.IR.{IR}
 use Rattle.ps_plan.specs.declared.ir.IR.TheVariants as entry
 use Rattle.ps_plan.specs.declared.ir.SinkType.TheVariants as sink_type
 use Rattle.ps_plan.specs.Refused.{named, node_of}
@@ -50,3 +53,15 @@ module _ (keys none k1 k2 : Vec ExprIR) (both : Vec Node) (is_keys : keys.items 
   twice_unfolds : tree_of twice_arenas 6 ≡ twice_plan
   unfolding plan_within tree_within
   twice_unfolds = rw (is_both, is_k1, is_k2, is_keys, is_none) refl
+
+-- a node over another one
+pub two-nodes : (nodes : List IR) (exprs : List AExpr) (below top : Node) (w : What) (offset : ℤ) (len : ℕ) → nodes ≡ entry.LeftOut w ∷ entry.Slice below offset len ∷ [] → below.0 ≡ 0 → top.0 ≡ 1 → IsPlan nodes exprs top
+unfolding plan_within
+two-nodes nodes exprs below top w offset len is at_below at_top = rw (is, at_top, at_below) (tt, ((tt, tt), tt))
+
+-- the same of arenas that were just built
+pub added-nodes : (none one two : List IR) (exprs : List AExpr) (below top : Node) (w : What) (offset : ℤ) (len : ℕ) → none ≡ [] → one ≡ none ++ entry.LeftOut w ∷ [] → two ≡ one ++ entry.Slice below offset len ∷ [] → below.0 ≡ length none
+    → top.0 ≡ length one → IsPlan two exprs top
+added-nodes none one two exprs below top w offset len is_none is_one is_two at_below at_top =
+    let first : one ≡ entry.LeftOut w ∷ [] = is_one ∙ ap (λ ns. ns ++ entry.LeftOut w ∷ []) is_none in
+    two-nodes two exprs below top w offset len (is_two ∙ ap (λ ns. ns ++ entry.Slice below offset len ∷ []) first) (at_below ∙ ap (λ ns. length ns) is_none) (at_top ∙ ap (λ ns. length ns) first)

@@ -16,7 +16,6 @@ use Rattle.ps_plan.specs.Refusals.{IsRefused, invalid_plan, too_large}
 use Rattle.ps_plan.specs.Steps.{entry_exprs, entry_inputs, union}
 use Rattle.ps_plan.specs.declared.ir.IR.{IR}
 use Rattle.ps_plan.specs.declared.ir.IR.TheVariants as entry
-use Rattle.ps_plan.specs.declared.ir.SinkType.TheVariants as sink_type
 use Rattle.ps_plan.specs.Refused.{doubling_plan, node_of, unions_from}
 use Rattle.ps_plan.specs.Examples.{one_input, scan_of}
 

@@ -1,4 +1,11 @@
 pub mod SmallCases
+pub mod Acyclic
+pub mod Complete
+pub mod ValidPlans
+pub mod CleanPlans
+pub mod TypedSteps
+pub mod TypedKinds
+pub mod ValidTyped
 pub mod Arenas
 pub mod CacheRow
 pub mod Doubling

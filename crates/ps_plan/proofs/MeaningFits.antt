@@ -46,7 +46,7 @@ fields-some s (e ∷ es) all = by (kind_over s e.1) (fields_of es s) all.0 (fiel
     by (Some k) r h (fs, q) = ((e.0, k) ∷ fs, ap (both_of (λ (k : DataType) (fs : Fields). (e.0, k) ∷ fs) (Some k)) q)
 
 -- names that stand
-kind-some : (n : Name) (s : Fields) → has_name n s ≡ true → is_some (field_kind n s) ≡ true
+pub kind-some : (n : Name) (s : Fields) → has_name n s ≡ true → is_some (field_kind n s) ≡ true
 kind-some n [] h = cc
 kind-some n (f ∷ fs) h = by (bytes_eq n f.0) refl (kind-some n fs)
   where

@@ -13,10 +13,10 @@ pub path-then : {next : ℕ → List ℕ} {a b c : ℕ} → Path next a b → Co
 path-then here h = onward h here
 path-then (onward k way) h = onward k (path-then way h)
 
-contains-first : {A : Type 0} (x : A) (xs : List A) → Contains (x ∷ xs) x
+pub contains-first : {A : Type 0} (x : A) (xs : List A) → Contains (x ∷ xs) x
 contains-first x xs = (0, omega arith, refl)
 
-contains-later : {A : Type 0} (x y : A) (xs : List A) → Contains xs y → Contains (x ∷ xs) y
+pub contains-later : {A : Type 0} (x y : A) (xs : List A) → Contains xs y → Contains (x ∷ xs) y
 contains-later x y xs (k, h, e) = (suc k, omega arith, e)
 
 module _ (plan : Plan) (P : Step → Type 0) where

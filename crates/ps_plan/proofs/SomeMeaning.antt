@@ -1,5 +1,5 @@
 -- A tree whose caches of one id stand over one tree means some table.
-use Rattle.std.proofs.Common.{◌≡◌, ℕ, List, [], ◌∷◌, refl, sym, ap, subst, ◌∙◌, inl}
+use Rattle.std.proofs.Common.{◌≡◌, ℕ, [], ◌∷◌, refl, sym, subst, inl}
 use Rattle.ps_frame.specs.Functions.{Functions, IsLawful}
 use Rattle.ps_frame.specs.Tables.{Table}
 use Rattle.ps_plan.specs.Cases.{cut_by}

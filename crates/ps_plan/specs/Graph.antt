@@ -1,5 +1,5 @@
 -- Paths in the arenas: what a node reaches, and what reaches itself.
-use Rattle.std.specs.Prelude.{ℕ, List, [], ◌∷◌, map, Option, Some, None, slice_get, Contains}
+use Rattle.std.specs.Prelude.{ℕ, ◌<◌, List, length, [], ◌∷◌, map, Option, Some, None, slice_get, Contains}
 use Rattle.pu_index.specs.declared.arena.Node.{Node}
 use Rattle.ps_frame.specs.declared.expr.AExpr.{AExpr}
 use Rattle.ps_frame.specs.declared.expr.AExpr.TheVariants as entry
@@ -80,3 +80,8 @@ ExprReachesItself plan e = Leads (operands_at plan) e e
 pub record HasNoCircle (plan : Plan) (n : ℕ) : Type 0 where
   pub nodes : (m : ℕ) → Path (inputs_at plan) n m → ¬ ReachesItself plan m
   pub exprs : (m e : ℕ) → Path (inputs_at plan) n m → Names plan m e → ¬ ExprReachesItself plan e
+
+-- all numbers at and below the node name entries
+pub record IsInRange (plan : Plan) (n : ℕ) : Type 0 where
+  pub nodes : (m : ℕ) → Path (inputs_at plan) n m → m < length plan.nodes
+  pub exprs : (m e : ℕ) → Path (inputs_at plan) n m → Names plan m e → e < length plan.exprs

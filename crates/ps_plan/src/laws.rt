@@ -1,12 +1,15 @@
 // Laws of meanings, as theorems of functions that do nothing.
-ghost use Rattle.std.specs.Prelude.{◌≡◌, ◌≢◌, List, [], true, ℕ};
+ghost use Rattle.std.specs.Prelude.{◌<◌, ◌≡◌, ◌≢◌, List, [], length, true, ℕ};
 ghost use Rattle.ps_frame.specs.Functions.{Functions, IsLawful};
 ghost use Rattle.ps_frame.specs.Tables.{Table, columns_of};
+ghost use Rattle.ps_frame.specs.Trees.{IsExpression};
 ghost use Rattle.ps_frame.specs.Zip.{zipped};
 ghost use Rattle.ps_plan.specs.Cases.{Case};
-ghost use Rattle.ps_plan.specs.Laws.{AnswersFit, EachReached, EachStep, FitsTable, FixesOrder, HoldsId, IsBuilt, IsTyped, SameCauses, StandsOver};
+ghost use Rattle.ps_plan.specs.Graph.{ExprReachesItself, HasNoCircle, IsInRange, Path, Reached, operands_at};
+ghost use Rattle.ps_plan.specs.Laws.{AnswersFit, EachReached, EachStep, FitsTable, FixesOrder, HoldsFitting, HoldsId, IsBuilt, IsTyped, SameCauses, StandsOver};
 ghost use Rattle.ps_plan.specs.Meaning.{Choice, IsMeaning, IsWholeMeaning, Means};
-ghost use Rattle.ps_plan.specs.Plans.{Plan, PlanTree, tree_of};
+ghost use Rattle.ps_plan.specs.Plans.{IsCompletePlan, Plan, PlanTree, tree_of};
+ghost use Rattle.ps_plan.specs.Refusals.{IsValid};
 ghost use Rattle.ps_plan.specs.Schemas.{tree_schema};
 ghost use Rattle.ps_plan.specs.Steps.{Step};
 
@@ -46,4 +49,21 @@ pub fn one_input_is_its_own_zip()
     ensures rows { (at : ℕ) (t : Table) → t.schema ≢ [] → FitsTable t → (zipped true at (columns_of t)).rows ≡ t.rows }
     ensures causes { (at : ℕ) (t : Table) → t.schema ≢ [] → FitsTable t → SameCauses (zipped true at (columns_of t)).broken t.broken }
     ensures lost { (at : ℕ) (t : Table) → t.schema ≢ [] → FitsTable t → (zipped true at (columns_of t)).lost ≡ [] }
+{}
+
+/// The tree of a node is complete where all numbers at and below it are in range and nothing there reaches itself: so is that of each node that a valid plan reaches.
+pub fn trees_are_complete()
+    ensures expressions { (plan : Plan) (e : ℕ) → ((m : ℕ) → Path (operands_at plan) e m → ¬ ExprReachesItself plan m) → ((m : ℕ) → Path (operands_at plan) e m → m < length plan.exprs) → IsExpression plan.exprs (record { 0 = e }) }
+    ensures nodes { (plan : Plan) (n : ℕ) → HasNoCircle plan n → IsInRange plan n → IsCompletePlan (tree_of plan n) }
+    ensures of_valid_plans { (F : Functions) (plan : Plan) (n : ℕ) → IsValid F plan → Reached plan n → IsCompletePlan (tree_of plan n) }
+{}
+
+/// Each step of a node that a valid plan reaches is typed, where each scan that is reached holds a table that fits its schema.
+pub fn valid_plans_are_typed()
+    ensures { (F : Functions) (plan : Plan) (n : ℕ) → IsValid F plan → EachReached HoldsFitting plan → Reached plan n → IsTyped F (tree_of plan n) }
+{}
+
+/// The rows that a node of a valid plan means have the values that its schema says, where the tables of scans and the answers of functions do.
+pub fn valid_plans_rows_fit()
+    ensures { (F : Functions) (choice : Choice) (plan : Plan) (n : ℕ) (T : Table) → IsLawful F → AnswersFit F → IsValid F plan → EachReached HoldsFitting plan → Reached plan n → Means F choice (tree_of plan n) T → FitsTable T }
 {}

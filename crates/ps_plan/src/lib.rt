@@ -5,4 +5,6 @@ pub mod examples;
 pub mod ir;
 pub mod laws;
 pub mod map;
+#[cfg(test)]
+mod tests;
 pub mod walk;
