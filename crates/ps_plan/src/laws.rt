@@ -6,7 +6,7 @@ ghost use Rattle.ps_frame.specs.Trees.{IsExpression};
 ghost use Rattle.ps_frame.specs.Zip.{zipped};
 ghost use Rattle.ps_plan.specs.Cases.{Case};
 ghost use Rattle.ps_plan.specs.Graph.{ExprReachesItself, HasNoCircle, IsInRange, Path, Reached, operands_at};
-ghost use Rattle.ps_plan.specs.Laws.{AnswersFit, EachReached, EachStep, FitsTable, FixesOrder, HoldsFitting, HoldsId, IsBuilt, IsTyped, SameCauses, StandsOver};
+ghost use Rattle.ps_plan.specs.Laws.{EachReached, EachStep, FitsTable, FixesOrder, HoldsFitting, HoldsId, IsBuilt, IsTyped, SameCauses, StandsOver};
 ghost use Rattle.ps_plan.specs.Meaning.{Choice, IsMeaning, IsWholeMeaning, Means};
 ghost use Rattle.ps_plan.specs.Plans.{IsCompletePlan, Plan, PlanTree, tree_of};
 ghost use Rattle.ps_plan.specs.Refusals.{IsValid};
@@ -26,7 +26,7 @@ pub fn tables_have_their_schema()
 
 /// The rows of a meaning have the values that its schema says, where each expression has a kind and no rule on names or kinds is broken.
 pub fn rows_fit_their_schema()
-    ensures { (F : Functions) (choice : Choice) (t : PlanTree) (T : Table) → IsLawful F → AnswersFit F → IsTyped F t → Means F choice t T → FitsTable T }
+    ensures { (F : Functions) (choice : Choice) (t : PlanTree) (T : Table) → IsLawful F → IsTyped F t → Means F choice t T → FitsTable T }
 {}
 
 /// A meaning depends on the choice only at the cache ids that the tree holds.
@@ -63,7 +63,7 @@ pub fn valid_plans_are_typed()
     ensures { (F : Functions) (plan : Plan) (n : ℕ) → IsValid F plan → EachReached HoldsFitting plan → Reached plan n → IsTyped F (tree_of plan n) }
 {}
 
-/// The rows that a node of a valid plan means have the values that its schema says, where the tables of scans and the answers of functions do.
+/// The rows that a node of a valid plan means have the values that its schema says, where the tables of scans do.
 pub fn valid_plans_rows_fit()
-    ensures { (F : Functions) (choice : Choice) (plan : Plan) (n : ℕ) (T : Table) → IsLawful F → AnswersFit F → IsValid F plan → EachReached HoldsFitting plan → Reached plan n → Means F choice (tree_of plan n) T → FitsTable T }
+    ensures { (F : Functions) (choice : Choice) (plan : Plan) (n : ℕ) (T : Table) → IsLawful F → IsValid F plan → EachReached HoldsFitting plan → Reached plan n → Means F choice (tree_of plan n) T → FitsTable T }
 {}
