@@ -17,7 +17,7 @@ use Rattle.ps_frame.specs.declared.value.DataType.TheVariants as kind
 use Rattle.ps_frame.specs.declared.value.Value.{Value}
 use Rattle.ps_plan.specs.Cases.{Case, Gives, GivesBeforeCut, all_columns, columns_at, cut_by, first_table, keyed, offset_of, out_schema, schemas_of, second_table, table_of, union_rows, hstack_places}
 use Rattle.ps_plan.specs.Distinct.{key_places, picked, places_in}
-use Rattle.ps_plan.specs.Laws.{AnswersFit, AreTyped, FitsKinds, FitsRow, FitsTable, HoldsFitting, IsTyped, IsTypedStep}
+use Rattle.ps_plan.specs.Laws.{AreTyped, FitsKinds, FitsRow, FitsTable, HoldsFitting, IsTyped, IsTypedStep}
 use Rattle.ps_plan.specs.Meaning.{Choice, Means, by_case, AllMean, none_mean, more_mean}
 use Rattle.ps_plan.specs.Plans.{PlanTree, PlanTrees}
 use Rattle.ps_plan.specs.Refusals.{column_not_found, duplicate, lacks_name}
@@ -125,7 +125,7 @@ named-keyed at es t out f q =
     zipped-fits false at (kinds_of t.schema ++ kinds_of out) (columns_of t ++ columns_at at (exprs_of es) t)
     (columns-append (kinds_of t.schema) (kinds_of out) (columns_of t) (columns_at at (exprs_of es) t) (table-columns t f) (named-columns t f at es out q))
 
-module _ (F : Functions) (lawful : IsLawful F) (answers : AnswersFit F) (at : ℕ) where
+module _ (F : Functions) (lawful : IsLawful F) (at : ℕ) where
   gives-fits : (step : Step) (ts : List Table) (T : Table) → IsTypedStep F step (schemas_of ts) → HoldsFitting step → AllByRecursion FitsTable ts → Gives F at step ts T → FitsTable T
   gives-fits (scan t None) ts T typed held f g = subst FitsTable (sym g) held
   gives-fits (scan t (Some ns)) ts T typed held f g =
@@ -163,7 +163,7 @@ module _ (F : Functions) (lawful : IsLawful F) (answers : AnswersFit F) (at : �
       let fits = numbered-fits name (first_table ts).schema (unwrap_or offset 0) _ (all-take (FitsRow (first_table ts).schema) _ (first_table ts).rows (first-fits ts f)) in
       subst FitsTable (sym g) (under _ ((name, kind.IdxSize) ∷ (first_table ts).schema) _ (ap (λ (s : Fields). (name, kind.IdxSize) ∷ s) (sym (first-is ts))) fits)
   gives-fits (user n) ts T typed held f g =
-      subst FitsTable (sym g) (user-fits F lawful answers at n (first_table ts) (out_schema F at (user n) ts) (ap (λ (s : Fields). unwrap_or (F.declared n s) []) (first-is ts)) (first-fits ts f))
+      subst FitsTable (sym g) (user-fits F lawful at n (first_table ts) (out_schema F at (user n) ts) (ap (λ (s : Fields). unwrap_or (F.declared n s) []) (first-is ts)) (first-fits ts f))
   gives-fits (sort o) ts T typed held f g =
       let h = subst (λ (s : Fields). have_all_kinds s o.keys ≡ true) (sym (first-is ts)) typed.kinds in
       let k = keyed-fits at o.keys (first_table ts) (first-fits ts f) h in
@@ -213,11 +213,11 @@ module _ (F : Functions) (lawful : IsLawful F) (answers : AnswersFit F) (at : �
   case-fits : (step : Step) (ts : List Table) (T : Table) → IsTypedStep F step (schemas_of ts) → HoldsFitting step → AllByRecursion FitsTable ts → Case F at step ts T → FitsTable T
   case-fits step ts T typed held f (U, before, e) = subst FitsTable (sym e) (cut_by-fits (step_cut step) U (before-fits step ts U typed held f before))
 
-module _ (F : Functions) (lawful : IsLawful F) (answers : AnswersFit F) (c : Choice) where
+module _ (F : Functions) (lawful : IsLawful F) (c : Choice) where
   mutual
     pub means-fits : {t : PlanTree} {T : Table} → Means F c t T → IsTyped F t → FitsTable T
     means-fits (by_case {at} {step} {below} {Ts} {T} ms k chosen) typed =
-        case-fits F lawful answers at step Ts T (subst (IsTypedStep F step) (sym (all_mean-schemas F lawful c ms)) typed.0) typed.1 (all-mean-fit ms typed.2) k
+        case-fits F lawful at step Ts T (subst (IsTypedStep F step) (sym (all_mean-schemas F lawful c ms)) typed.0) typed.1 (all-mean-fit ms typed.2) k
 
     all-mean-fit : {ts : PlanTrees} {Ts : List Table} → AllMean F c ts Ts → AreTyped F ts → AllByRecursion FitsTable Ts
     all-mean-fit none_mean typed = tt

@@ -23,7 +23,7 @@ use Rattle.ps_plan.specs.Cases.{answer_or_fault, columns_at, cut_table, if_whole
 use Rattle.ps_plan.specs.Distinct.{distinct_rows, first_rows, kept_rows, last_rows, picked, places_in, same_key}
 use Rattle.ps_plan.specs.Groups.{Group, group_of, group_rows, groups, groups_table, keys_of, only_value, rows_before_faulty}
 use Rattle.ps_plan.specs.Joins.{Pair, all_pairs, join_rows, joined_by, joined_row, left_where, matched_pairs, pairs_of, rows_match, unmatched_left, unmatched_right}
-use Rattle.ps_plan.specs.Laws.{AnswersFit, FitsKinds, FitsRow, FitsTable}
+use Rattle.ps_plan.specs.Laws.{FitsKinds, FitsRow, FitsTable}
 use Rattle.ps_plan.specs.Orders.{IsOrder}
 use Rattle.ps_plan.specs.Schemas.{both as both_of, fields_of, join_schema, left_output, left_part, names_of, right_output, right_part, suffix_of, suffixed}
 use Rattle.ps_plan.specs.Steps.{JoinStep, Name, Named, SortStep, exprs_of}
@@ -104,13 +104,13 @@ module _ (P : List Value → Type 0) where
   kept-all keep.None places rows f = all-filter P _ rows f
 
 -- The answers of functions.
-module _ (F : Functions) (lawful : IsLawful F) (answers : AnswersFit F) (node n : ℕ) where
+module _ (F : Functions) (lawful : IsLawful F) (node n : ℕ) where
   answered-fits : (s out : Fields) → unwrap_or (F.declared n s) [] ≡ out → (r : List Value) → FitsRow s r → (z : Zipped) → AllByRecursion (FitsRow out) z.rows → (o : Option Frame) → F.answer n (record { schema = s; rows = r ∷ [] }) ≡ o
       → AllByRecursion (FitsRow out) (answered node o z).rows
   answered-fits s out e r f z g None q = tt
   answered-fits s out e r f z g (Some a) q =
       let schema : a.schema ≡ out = sym (ap (λ o. unwrap_or o []) (lawful.keeps_schema n (record { schema = s; rows = r ∷ [] }) a q)) ∙ e in
-      all-append (FitsRow out) a.rows z.rows (subst (λ (s : Fields). AllByRecursion (FitsRow s) a.rows) schema (answers n (record { schema = s; rows = r ∷ [] }) a (f, tt) q)) g
+      all-append (FitsRow out) a.rows z.rows (subst (λ (s : Fields). AllByRecursion (FitsRow s) a.rows) schema (lawful.keeps_rows n (record { schema = s; rows = r ∷ [] }) a (f, tt) q)) g
 
   streamed-fits : (s out : Fields) → unwrap_or (F.declared n s) [] ≡ out → (rows : List (List Value)) → AllByRecursion (FitsRow s) rows → AllByRecursion (FitsRow out) (streamed node (λ r. F.answer n (record { schema = s; rows = r ∷ [] })) rows).rows
   streamed-fits s out e [] f = tt
@@ -122,7 +122,7 @@ module _ (F : Functions) (lawful : IsLawful F) (answers : AnswersFit F) (node n 
   answer-fits t out e f None q = (tt, refl)
   answer-fits t out e f (Some a) q =
       let schema : a.schema ≡ out = sym (ap (λ o. unwrap_or o []) (lawful.keeps_schema n (record { schema = t.schema; rows = t.rows }) a q)) ∙ e in
-      (answers n (record { schema = t.schema; rows = t.rows }) a f q, schema)
+      (lawful.keeps_rows n (record { schema = t.schema; rows = t.rows }) a f q, schema)
 
   pub user-fits : (t : Table) (out : Fields) → unwrap_or (F.declared n t.schema) [] ≡ out → FitsTable t → FitsTable (user_table F node n out t)
   user-fits t out e f = by (F.streams n)

@@ -1,13 +1,11 @@
 -- Words of the laws of meanings: which steps fix their order, which cache ids a tree holds, and when a table's rows have the values of its schema.
-use Rattle.std.specs.Prelude.{ℕ, ◌⊎◌, ◌≡◌, List, [], ◌∷◌, Contains, IfSome, IsTrue, Some, slice_get, ⊤}
+use Rattle.std.specs.Prelude.{ℕ, ◌⊎◌, ◌≡◌, List, Contains, IfSome, IsTrue, slice_get, ⊤}
 use Rattle.std.specs.List.{AllByRecursion}
 use Rattle.ps_frame.specs.Causes.{Cause}
 use Rattle.ps_frame.specs.Frames.{has_distinct_names, kinds_of}
 use Rattle.ps_frame.specs.Functions.{Functions}
 pub use Rattle.ps_frame.specs.Lawful.{FitsKinds}
-use Rattle.ps_frame.specs.Tables.{Fields, Frame, Table, whole}
-use Rattle.ps_frame.specs.Values.{fits_kind}
-use Rattle.ps_frame.specs.declared.value.DataType.{DataType}
+use Rattle.ps_frame.specs.Tables.{Fields, Table, whole}
 use Rattle.ps_frame.specs.declared.value.Value.{Value}
 use Rattle.ps_frame.specs.Trees.{tree_at}
 use Rattle.ps_plan.specs.Graph.{Reached}
@@ -96,10 +94,6 @@ abbrev mutual
   pub AreTyped : Functions → PlanTrees → Type 0
   AreTyped F no_trees = ⊤
   AreTyped F (tree t ts) = IsTyped F t × AreTyped F ts
-
--- functions answer tables that fit by tables that fit
-abbrev pub AnswersFit : Functions → Type 0
-AnswersFit F = (n : ℕ) (f g : Frame) → FitsTable (whole f) → F.answer n f ≡ Some g → FitsTable (whole g)
 
 -- a cache stands over the tree that is stored for its id
 abbrev pub IsStored : (ℕ → PlanTree) → Step → PlanTrees → Type 0
