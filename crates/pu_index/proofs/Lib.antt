@@ -1,5 +1,6 @@
 pub mod CallsPush
 pub mod Padded
+pub mod Pairings
 pub mod Searches
 pub mod StoredParts
 pub mod Turn
