@@ -1,5 +1,5 @@
 // Iterators that are collected or numbered.
-ghost use Rattle.std.specs.Prelude.{◌≡◌, ◌+◌, ◌^◌, ◌<◌, ◌++◌, ◌∷◌, [], List, Ok, Err, map, Some, IfOk, OnErr, MatchResult, false};
+ghost use Rattle.std.specs.Prelude.{◌≡◌, ◌+◌, ◌^◌, ◌<◌, ◌≤◌, ◌++◌, ◌∷◌, [], List, length, Ok, Err, map, Some, IfOk, OnErr, MatchResult, false};
 ghost use Rattle.std.specs.Bool.{OnTrue, OnFalse};
 ghost use Rattle.std.specs.Iterator.{Drains, YieldsThen, IsFinite, IsFiniteIterable, size};
 ghost use Rattle.pu_index.specs.Compared.{AllAlike, ComparesByEq, ComparesByPartialCmp};
@@ -110,6 +110,7 @@ where
     requires can { I.can_next iter }
     requires ends { IsFinite (I.remaining iter) }
     ensures all { IfOk result (λ v. Drains I.next_gives iter v.items) }
+    ensures within { IfOk result (λ v. length v.items ≤ size (I.remaining iter)) }
     ensures memory { OnErr result (result ≡ Err refusal.OutOfMemory) }
 {
     let mut items = Vec::new(alloc);

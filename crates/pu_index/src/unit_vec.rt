@@ -1,8 +1,8 @@
 // Vectors that hold one item without memory.
-ghost use Rattle.std.specs.Prelude.{◌≡◌, ◌≢◌, ◌↔◌, ◌+◌, ◌-◌, ◌<◌, ◌≤◌, ◌^◌, ◌++◌, ◌∷◌, [], List, max, length, take, IfOk, IsOk, IsTrue, OnOk, OnErr, Err, MatchOption, replicate, vec_capacity};
+ghost use Rattle.std.specs.Prelude.{◌≡◌, ◌≢◌, ◌↔◌, ◌⊎◌, ◌+◌, ◌-◌, ◌<◌, ◌≤◌, ◌^◌, ◌++◌, ◌∷◌, [], List, max, length, take, IfOk, IsOk, IsTrue, OnOk, OnErr, Err, MatchOption, replicate, vec_capacity};
 ghost use Rattle.std.specs.Mem.{FitsInMemory};
 ghost use Rattle.std.specs.Slice.Iter.{iter_rest, iter_mut_rest};
-ghost use Rattle.std.specs.Iterator.{Drains, HoldsAlong, IsFinite};
+ghost use Rattle.std.specs.Iterator.{Drains, HoldsAlong, IsFinite, size};
 ghost use Rattle.std.specs.Borrow.{sem};
 ghost use Rattle.pu_index.specs.UnitVec.{short, grown};
 ghost use Rattle.pu_order.specs.declared.error.PolarsUtilsError.TheVariants as refusal;
@@ -228,7 +228,7 @@ impl<T: Copy> UnitVec<T> {
     pub fn extend<I: Iterator<Item = T>>(&mut self, iter: I) -> Result<()>
         requires can { I.can_next iter }
         requires ends { IsFinite (I.remaining iter) }
-        requires fits { HoldsAlong I.next_gives iter (λ items. length self.old.items + length items < 2 ^ 31) }
+        requires fits { (length self.old.items + size (I.remaining iter) < 2 ^ 31) ⊎ HoldsAlong I.next_gives iter (λ items. length self.old.items + length items < 2 ^ 31) }
         ensures appended { OnOk result ((items : List T) × Drains I.next_gives iter items × (self.new ≡ short (self.old.items ++ items) (grown self.old.capacity (length self.old.items + length items)))) }
         ensures unchanged { OnErr result (self.new ≡ self.old) }
         ensures memory { OnErr result (result ≡ Err refusal.OutOfMemory) }
