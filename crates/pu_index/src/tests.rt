@@ -72,6 +72,10 @@ fn keeps_entries(rt: HostRuntime) -> Result<(), Fail> {
     assert!(rt; second.0 < arena.len());
     *arena.get_mut(second) = 9;
     assert_eq!(rt; *arena.get(second), 9);
+    let (later, earlier) = arena.get_pair_mut(second, first);
+    (*later, *earlier) = (2, 1);
+    assert_eq!(rt; arena.pop(), Some(2));
+    assert_eq!(rt; arena.pop(), Some(1));
     arena.clear();
     assert_eq!(rt; arena.version(), 1);
     assert!(rt; arena.is_empty());
