@@ -1,5 +1,5 @@
 -- One more call.
-use Rattle.std.proofs.Common.{◌≡◌, List, [], ◌∷◌, ◌++◌, map, Option, Some, None, refl, sym, ap, subst, ◌∙◌}
+use Rattle.std.proofs.Common.{◌≡◌, List, [], ◌∷◌, ◌++◌, map, Option, Some, None, refl, ap, subst}
 use Rattle.pu_index.specs.Calls.{Calls, kept}
 
 module _ {F A R : Type 0} (step : F → A → R → F → Type 0) where

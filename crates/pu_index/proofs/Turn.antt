@@ -1,5 +1,5 @@
 -- One turn over a queue whose front is taken off and whose kept items go to its back.
-use Rattle.std.proofs.Common.{◌≡◌, ℕ, ◌+◌, ◌<◌, List, [], ◌∷◌, ◌++◌, map, length, Option, refl, sym, ap, subst, ◌∙◌, arith, append_assoc}
+use Rattle.std.proofs.Common.{◌≡◌, ℕ, ◌+◌, ◌<◌, List, [], ◌∷◌, ◌++◌, map, length, Option, refl, sym, ap, ◌∙◌, arith, append_assoc}
 use Rattle.pu_index.specs.Calls.{kept}
 use Rattle.pu_index.proofs.CallsPush.{kept-push, map-append}
 

@@ -1,6 +1,5 @@
 -- A ring of a fixed capacity, as contracts see it.
-use Rattle.std.specs.Prelude.{ℕ, ◌-◌, List, length, refl}
-use Rattle.std.specs.Coded.{Coded, code_by, coded×, coded_list, coded_ℕ}
+use Rattle.std.specs.Prelude.{ℕ, ◌-◌, List, length}
 
 -- the items, the oldest first, and how many there may be
 pub record FixedRing (T : Type 0) : Type 0 where

@@ -2,6 +2,7 @@ pub mod ArenaLends
 pub mod Calls
 pub mod ChunkSteps
 pub mod ChunksLeft
+pub mod Compared
 pub mod Counted
 pub mod FixedRing
 pub mod Idx
@@ -10,4 +11,5 @@ pub mod Parts
 pub mod Portion
 pub mod Reader
 pub mod StoredIn
+pub mod UnitLends
 pub mod UnitVec

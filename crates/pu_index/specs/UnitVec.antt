@@ -1,5 +1,5 @@
 -- A short vector, as contracts see it.
-use Rattle.std.specs.Prelude.{◌≡◌, ℕ, ◌+◌, ◌*◌, ◌≤◌, ◌<◌, List, [], max, if◌then◌else◌, nat_le, Option, MatchOption, vec_capacity}
+use Rattle.std.specs.Prelude.{◌≡◌, ℕ, ◌*◌, ◌≤◌, List, [], max, if◌then◌else◌, nat_le, Option, MatchOption, vec_capacity}
 use Rattle.std.specs.declared.vec.Vec.{Vec}
 
 -- the items, and how many fit without memory

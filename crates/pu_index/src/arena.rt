@@ -1,6 +1,6 @@
 // Arenas: entries that are named by their numbers.
 ghost use Rattle.std.specs.Prelude.{◌≡◌, ◌≢◌, ◌↔◌, ◌+◌, ◌<◌, ◌++◌, ◌∷◌, [], length, slice_get, slice_set, swap, IfOk, IsTrue, OnErr, Ok, Err, MatchOption, MatchResult};
-ghost use Rattle.std.specs.Borrow.{sem};
+ghost use Rattle.std.specs.Borrow.{sem, Array, LendsBoth};
 ghost use Rattle.pu_order.specs.declared.error.PolarsUtilsError.TheVariants as refusal;
 
 use pu_order::Result;
@@ -38,7 +38,7 @@ impl<T> Model for Arena<T> {
 }
 
 impl<T> Arena<T> {
-    ghost use Rattle.pu_index.specs.ArenaLends.{lends_entry};
+    ghost use Rattle.pu_index.specs.ArenaLends.{lends_entry, lends_entries, lends_pair};
 
     /// An arena without entries, which takes no memory.
     pub fn new(alloc: Global) -> Arena<T>
@@ -111,6 +111,26 @@ impl<T> Arena<T> {
         ensures value { slice_get self.old n.0 ≡ Some result.now }
     {
         &mut self.items[n.0]
+    }
+
+    /// Two different entries, to write to.
+    pub fn get_pair_mut(&mut self, a: Node, b: Node) -> (&mut T, &mut T)
+        requires first { a.0 < length self.old }
+        requires second { b.0 < length self.old }
+        requires different { a.0 ≢ b.0 }
+        ensures* writes_back { sem 𝓛 (lends_pair T.row self.entry a.0 b.0 result) }
+        ensures first_value { slice_get self.old a.0 ≡ Some result.0.now }
+        ensures second_value { slice_get self.old b.0 ≡ Some result.1.now }
+    {
+        pair_of(self.entries_mut(), a, b)
+    }
+
+    /// The entries, to write to.
+    fn entries_mut(&mut self) -> &mut [T]
+        ensures* writes_back { sem 𝓛 (lends_entries T.row self.entry result) }
+        ensures value { result.now ≡ self.old }
+    {
+        self.items.as_mut_slice()
     }
 
     /// One more entry, under the number that is answered.
@@ -251,4 +271,22 @@ fn cloned<T: Clone>(alloc: Global, values: &[T]) -> Result<Vec<T>>
         copies.push(value.clone()?)?;
     }
     Ok(copies)
+}
+
+/// Two different entries of a slice, to write to.
+fn pair_of<T>(entries: &mut [T], a: Node, b: Node) -> (&mut T, &mut T)
+    requires first { a.0 < length entries.old }
+    requires second { b.0 < length entries.old }
+    requires different { a.0 ≢ b.0 }
+    ensures* writes_back { sem 𝓛 (LendsBoth (Array T.row 0) T.row T.row entries.entry result (λ x y. slice_set (slice_set entries.old a.0 x) b.0 y)) }
+    ensures first_value { slice_get entries.old a.0 ≡ Some result.0.now }
+    ensures second_value { slice_get entries.old b.0 ≡ Some result.1.now }
+{
+    if a.0 < b.0 {
+        let (front, back) = entries.split_at_mut(b.0);
+        (&mut front[a.0], &mut back[0])
+    } else {
+        let (front, back) = entries.split_at_mut(a.0);
+        (&mut back[0], &mut front[b.0])
+    }
 }

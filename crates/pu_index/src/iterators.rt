@@ -1,13 +1,16 @@
 // Iterators that are collected or numbered.
-ghost use Rattle.std.specs.Prelude.{◌≡◌, ◌+◌, ◌^◌, ◌<◌, ◌++◌, ◌∷◌, [], List, Ok, Err, map, Some, IfOk, OnErr, MatchResult};
-ghost use Rattle.std.specs.Iterator.{Drains, YieldsThen, IsFinite, size};
+ghost use Rattle.std.specs.Prelude.{◌≡◌, ◌+◌, ◌^◌, ◌<◌, ◌≤◌, ◌++◌, ◌∷◌, [], List, length, Ok, Err, map, Some, IfOk, OnErr, MatchResult, false};
+ghost use Rattle.std.specs.Bool.{OnTrue, OnFalse};
+ghost use Rattle.std.specs.Iterator.{Drains, YieldsThen, IsFinite, IsFiniteIterable, size};
+ghost use Rattle.pu_index.specs.Compared.{AllAlike, ComparesByEq, ComparesByPartialCmp};
 ghost use Rattle.pu_index.specs.Counted.{source, number};
 ghost use Rattle.pu_order.specs.declared.error.PolarsUtilsError.TheVariants as refusal;
 
 use crate::idx::IdxSize;
 use pu_order::Result;
 use std::alloc::Global;
-use std::iter::{DoubleEndedIterator, ExactSizeIterator};
+use std::cmp::Ordering;
+use std::iter::{DoubleEndedIterator, ExactSizeIterator, FromIterator};
 use std::result::Result as Outcome;
 
 /// An iterator that numbers the items of another, from 0 on.
@@ -107,6 +110,7 @@ where
     requires can { I.can_next iter }
     requires ends { IsFinite (I.remaining iter) }
     ensures all { IfOk result (λ v. Drains I.next_gives iter v.items) }
+    ensures within { IfOk result (λ v. length v.items ≤ size (I.remaining iter)) }
     ensures memory { OnErr result (result ≡ Err refusal.OutOfMemory) }
 {
     let mut items = Vec::new(alloc);
@@ -136,4 +140,105 @@ pub fn try_collect_vec<T: Drop, E: Drop, I: Iterator<Item = Outcome<T, E>>>(
         }
     }
     Ok(Ok(values))
+}
+
+/// The values that an iterator gives, collected, or the first error that it gives instead of one.
+///
+/// Fails only for want of memory.
+pub fn try_collect<
+    T: Drop,
+    E: Drop,
+    U: FromIterator<T, Alloc = Global>,
+    I: Iterator<Item = Outcome<T, E>>,
+>(alloc: Global, iter: I) -> Result<Outcome<U, E>>
+    requires can { I.can_next iter }
+    requires ends { IsFinite (I.remaining iter) }
+    requires collects { (values : List T) → U.can_from_iter values }
+    ensures all { IfOk result (λ outcome. MatchResult outcome (λ collected. (values : List T) × Drains I.next_gives iter (map Ok values) × (U.is_complete collected → U.from_iter_gives values collected)) (λ e. (before : List T) × (last : I) × YieldsThen I.next_gives iter (map Ok before) (Some (Err e)) last)) }
+    ensures memory { OnErr result (result ≡ Err refusal.OutOfMemory) }
+{
+    match try_collect_vec(alloc, iter)? {
+        Ok(values) => Ok(Ok(values.into_iter().collect(alloc)?)),
+        Err(error) => Ok(Err(error)),
+    }
+}
+
+/// Whether all items of an iterator are equal. Stops at the first that differs from the first one.
+pub fn all_equal<I: Iterator>(mut iter: I) -> bool
+where
+    I::Item: PartialEq + Drop,
+    requires can { I.can_next iter }
+    requires ends { IsFinite (I.remaining iter) }
+    ensures all { OnTrue result ((items : List I.Item) × Drains I.next_gives iter items × AllAlike I.Item.eq items) }
+    ensures unlike { OnFalse result ((first item : I.Item) × (between : List I.Item) × (last : I) × YieldsThen I.next_gives iter (first ∷ between) (Some item) last × (I.Item.eq first item ≡ false)) }
+{
+    let Some(first) = iter.next() else {
+        return true;
+    };
+    for item in iter {
+        if first != item {
+            return false;
+        }
+    }
+    true
+}
+
+/// Whether two iterators give as many items, at each pair of which `eq` answers true. Stops at the
+/// first pair at which it doesn't.
+pub fn eq_by_<I: Iterator, J: IntoIterator, F: FnMut(I::Item, J::Item) -> bool>(
+    iter: I,
+    other: J,
+    mut eq: F,
+) -> bool
+where
+    I::Item: Drop,
+    J::Item: Drop,
+    requires can { I.can_next iter }
+    requires ends { IsFinite (I.remaining iter) }
+    requires other { IsFiniteIterable J.into_iter_gives J.IntoIter.can_next J.IntoIter.remaining other }
+    requires callable { F.IsAlwaysCallable eq }
+    ensures { ComparesByEq I.next_gives J.into_iter_gives J.IntoIter.next_gives F.step iter other eq result }
+{
+    let mut others = other.into_iter();
+    for item in iter {
+        let Some(other) = others.next() else {
+            return false;
+        };
+        if !eq(item, other) {
+            return false;
+        }
+    }
+    others.next().is_none()
+}
+
+/// Compares two iterators by the first pair of items at which `partial_cmp` doesn't answer that they
+/// are equal. Where there is none, the one that ends first is the lesser.
+pub fn partial_cmp_by_<
+    I: Iterator,
+    J: IntoIterator,
+    F: FnMut(I::Item, J::Item) -> Option<Ordering>,
+>(iter: I, other: J, mut partial_cmp: F) -> Option<Ordering>
+where
+    I::Item: Drop,
+    J::Item: Drop,
+    requires can { I.can_next iter }
+    requires ends { IsFinite (I.remaining iter) }
+    requires other { IsFiniteIterable J.into_iter_gives J.IntoIter.can_next J.IntoIter.remaining other }
+    requires callable { F.IsAlwaysCallable partial_cmp }
+    ensures { ComparesByPartialCmp I.next_gives J.into_iter_gives J.IntoIter.next_gives F.step iter other partial_cmp result }
+{
+    let mut others = other.into_iter();
+    for item in iter {
+        let Some(other) = others.next() else {
+            return Some(Ordering::Greater);
+        };
+        match partial_cmp(item, other) {
+            Some(Ordering::Equal) => {}
+            order => return order,
+        }
+    }
+    match others.next() {
+        Some(_) => Some(Ordering::Less),
+        None => Some(Ordering::Equal),
+    }
 }

@@ -21,7 +21,10 @@ pub use chunk_id::{ChunkId, DEFAULT_CHUNK_BITS};
 pub use chunks::Chunks;
 pub use idx::{AtomicIdxSize, IdxSize, NonZeroIdxSize, NullableIdxSize, ToIdx, check_bounds};
 pub use indexable::Indexable;
-pub use iterators::{EnumerateIdx, collect_vec, enumerate_idx, enumerate_u32, try_collect_vec};
+pub use iterators::{
+    EnumerateIdx, all_equal, collect_vec, enumerate_idx, enumerate_u32, eq_by_, partial_cmp_by_,
+    try_collect, try_collect_vec,
+};
 pub use mem_reader::MemReader;
 pub use mem_slice::MemSlice;
 pub use ring::FixedRingBuffer;

@@ -125,3 +125,23 @@ impl AsSlice<u8> for MemSlice {
         self.bytes.as_slice()
     }
 }
+
+impl Default for MemSlice {
+    ghost use Rattle.std.specs.Prelude.{◌≡◌, []};
+
+    ghost is_default = { λ slice. slice ≡ [] };
+
+    fn default() -> MemSlice {
+        MemSlice::empty()
+    }
+}
+
+impl From<Bytes> for MemSlice {
+    ghost use Rattle.std.specs.Prelude.{◌≡◌};
+
+    ghost from_gives = { λ bytes slice. slice ≡ bytes };
+
+    fn from(bytes: Bytes) -> MemSlice {
+        MemSlice::from_bytes(bytes)
+    }
+}

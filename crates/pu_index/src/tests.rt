@@ -3,6 +3,9 @@ use crate::idx::{NullableIdxSize, ToIdx, check_bounds};
 use crate::indexable::Indexable;
 use crate::slices::SliceAble;
 use crate::*;
+use std::alloc::Global;
+use std::cmp::Ordering;
+use std::convert::AsSlice;
 use std::io::SeekFrom;
 use std::test::Fail;
 
@@ -69,6 +72,10 @@ fn keeps_entries(rt: HostRuntime) -> Result<(), Fail> {
     assert!(rt; second.0 < arena.len());
     *arena.get_mut(second) = 9;
     assert_eq!(rt; *arena.get(second), 9);
+    let (later, earlier) = arena.get_pair_mut(second, first);
+    (*later, *earlier) = (2, 1);
+    assert_eq!(rt; arena.pop(), Some(2));
+    assert_eq!(rt; arena.pop(), Some(1));
     arena.clear();
     assert_eq!(rt; arena.version(), 1);
     assert!(rt; arena.is_empty());
@@ -91,8 +98,28 @@ fn takes_memory_at_the_second_item(rt: HostRuntime) -> Result<(), Fail> {
     assert_eq!(rt; listed.as_slice(), [4, 5, 6].as_slice());
     let one: UnitVec<u32> = unitvec!(alloc; 4);
     assert_eq!(rt; one.len(), 1);
+    assert!(rt; listed != one);
     Ok(())
 }
+
+#[test]
+fn writes_to_short_vectors(rt: HostRuntime) -> Result<(), Fail> {
+    let alloc = rt.alloc();
+    let mut v: IdxVec = unitvec!(alloc; 4);
+    v.as_mut_slice()[0] = 5;
+    assert_eq!(rt; AsSlice::as_slice(&v), [5].as_slice());
+    let more: IdxVec = unitvec!(alloc; 5, 7)?;
+    v.extend([7].iter().copied())?;
+    assert!(rt; v == more);
+    for item in v.iter_mut() {
+        *item = 1;
+    }
+    assert_eq!(rt; v.as_slice(), [1, 1].as_slice());
+    shared_by_threads(&v);
+    Ok(())
+}
+
+fn shared_by_threads<T: Send + Sync>(_value: &T) {}
 
 #[test]
 fn goes_round(rt: HostRuntime) -> Result<(), Fail> {
@@ -181,4 +208,36 @@ fn numbers_and_collects(rt: HostRuntime) -> Result<(), Fail> {
     assert_eq!(rt; Indexable::get(&items, 1), 8);
     assert_eq!(rt; SliceAble::slice(&items, 1..3).len(), 2);
     Ok(())
+}
+
+#[test]
+fn compares_iterators(rt: HostRuntime) {
+    assert!(rt; all_equal([2u8, 2].iter()));
+    assert!(rt; !all_equal([2u8, 3].iter()));
+    assert!(rt; are_equal(&[1, 2], &[1, 2]));
+    assert!(rt; !are_equal(&[1, 2], &[1]));
+    assert_eq!(rt; compared(&[1, 2], &[1, 3]), Some(Ordering::Less));
+    assert_eq!(rt; compared(&[1, 2], &[1]), Some(Ordering::Greater));
+}
+
+fn are_equal(xs: &[u8], ys: &[u8]) -> bool {
+    eq_by_(xs.iter(), ys.iter(), |x, y| x == y)
+}
+
+fn compared(xs: &[u8], ys: &[u8]) -> Option<Ordering> {
+    partial_cmp_by_(xs.iter(), ys.iter(), |x, y| x.partial_cmp(y))
+}
+
+#[test]
+fn collects_up_to_an_error(rt: HostRuntime) -> Result<(), Fail> {
+    let alloc = rt.alloc();
+    let values = tried(alloc, &[Ok(1), Ok(2)])?;
+    assert_eq!(rt; values.map(|v| v.len()), Ok(2));
+    let values = tried(alloc, &[Ok(1), Err(3), Err(4)])?;
+    assert_eq!(rt; values.map(|v| v.len()), Err(3));
+    Ok(())
+}
+
+fn tried(alloc: Global, items: &[Result<u8, u8>]) -> pu_order::Result<Result<Vec<u8>, u8>> {
+    try_collect(alloc, items.iter().copied())
 }

@@ -1,13 +1,17 @@
 // Vectors that hold one item without memory.
-ghost use Rattle.std.specs.Prelude.{◌≡◌, ◌≢◌, ◌↔◌, ◌+◌, ◌-◌, ◌<◌, ◌≤◌, ◌^◌, ◌++◌, ◌∷◌, [], max, length, take, IfOk, IsOk, IsTrue, OnOk, OnErr, Err, MatchOption, replicate, vec_capacity};
+ghost use Rattle.std.specs.Prelude.{◌≡◌, ◌≢◌, ◌↔◌, ◌⊎◌, ◌+◌, ◌-◌, ◌<◌, ◌≤◌, ◌^◌, ◌++◌, ◌∷◌, [], List, max, length, take, IfOk, IsOk, IsTrue, OnOk, OnErr, Err, MatchOption, replicate, vec_capacity};
 ghost use Rattle.std.specs.Mem.{FitsInMemory};
-ghost use Rattle.std.specs.Slice.Iter.{iter_rest};
+ghost use Rattle.std.specs.Slice.Iter.{iter_rest, iter_mut_rest};
+ghost use Rattle.std.specs.Iterator.{Drains, HoldsAlong, IsFinite, size};
+ghost use Rattle.std.specs.Borrow.{sem};
 ghost use Rattle.pu_index.specs.UnitVec.{short, grown};
 ghost use Rattle.pu_order.specs.declared.error.PolarsUtilsError.TheVariants as refusal;
 
 use crate::idx::IdxSize;
+use crate::iterators::collect_vec;
 use pu_order::Result;
 use std::alloc::Global;
+use std::convert::AsSlice;
 use std::marker::Model;
 use std::{array, fmt, slice};
 
@@ -34,6 +38,8 @@ impl<T> Model for UnitVec<T> {
 }
 
 impl<T: Copy> UnitVec<T> {
+    ghost use Rattle.pu_index.specs.UnitLends.{lends_items, lends_iter};
+
     /// A vector without items that has room for one, which takes no memory.
     pub fn new(alloc: Global) -> UnitVec<T>
         ensures { result ≡ short [] 1 }
@@ -96,12 +102,34 @@ impl<T: Copy> UnitVec<T> {
         }
     }
 
+    /// The items, to write to.
+    pub fn as_mut_slice(&mut self) -> &mut [T]
+        requires { FitsInMemory T.row }
+        ensures* writes_back { sem 𝓛 (lends_items T.row self.entry result) }
+        ensures value { result.now ≡ self.old.items }
+    {
+        if self.inline.is_some() {
+            self.inline.as_mut_slice()
+        } else {
+            self.heap.as_mut_slice()
+        }
+    }
+
     /// Goes over the items.
     pub fn iter(&self) -> slice::Iter<'_, T>
         requires { FitsInMemory T.row }
         ensures { iter_rest result ≡ self.now.items }
     {
         self.as_slice().iter()
+    }
+
+    /// Goes over the items, each of which may be written to.
+    pub fn iter_mut(&mut self) -> slice::IterMut<'_, T>
+        requires { FitsInMemory T.row }
+        ensures* writes_back { sem 𝓛 (lends_iter T.row self.entry result) }
+        ensures rest { iter_mut_rest result ≡ self.old.items }
+    {
+        self.as_mut_slice().iter_mut()
     }
 
     /// Takes every item off, and keeps the room.
@@ -194,6 +222,22 @@ impl<T: Copy> UnitVec<T> {
         Ok(())
     }
 
+    /// Appends the items of an iterator.
+    ///
+    /// Fails only for want of memory; the vector is then as before.
+    pub fn extend<I: Iterator<Item = T>>(&mut self, iter: I) -> Result<()>
+        requires can { I.can_next iter }
+        requires ends { IsFinite (I.remaining iter) }
+        requires fits { (length self.old.items + size (I.remaining iter) < 2 ^ 31) ⊎ HoldsAlong I.next_gives iter (λ items. length self.old.items + length items < 2 ^ 31) }
+        ensures appended { OnOk result ((items : List T) × Drains I.next_gives iter items × (self.new ≡ short (self.old.items ++ items) (grown self.old.capacity (length self.old.items + length items)))) }
+        ensures unchanged { OnErr result (self.new ≡ self.old) }
+        ensures memory { OnErr result (result ≡ Err refusal.OutOfMemory) }
+    {
+        let alloc = *self.heap.allocator();
+        let items = collect_vec(alloc, iter)?;
+        self.extend_from_slice(&items)
+    }
+
     /// A vector of one item, which takes no memory.
     pub fn of_one(alloc: Global, item: T) -> UnitVec<T>
         ensures { result ≡ short (item ∷ []) 1 }
@@ -280,6 +324,45 @@ fn empty<T>(alloc: Global) -> Vec<T>
     ensures room { vec_capacity result ≤ 1 }
 {
     Vec::new(alloc)
+}
+
+impl AsSlice<IdxSize> for IdxVec {
+    ghost items = { λ v. v.items };
+
+    fn as_slice(&self) -> &[IdxSize] {
+        UnitVec::as_slice(self)
+    }
+}
+
+impl<T: Copy + PartialEq> PartialEq for UnitVec<T> {
+    ghost use Rattle.std.specs.Cmp.{on_per};
+    ghost use Rattle.std.specs.Cmp.Lexicographic.{pointwise, lists_per};
+
+    ghost eq = { λ v w. pointwise T.eq v.items w.items };
+
+    ghost laws = { on_per (λ v. v.items) (lists_per T.laws) };
+
+    fn eq(&self, other: &Self) -> bool {
+        match (&self.inline, &other.inline) {
+            (Some(item), Some(other)) => item == other,
+            (Some(item), None) => match other.heap.as_slice() {
+                [only] => item == only,
+                _ => false,
+            },
+            (None, Some(item)) => match self.heap.as_slice() {
+                [only] => only == item,
+                _ => false,
+            },
+            (None, None) => self.heap.as_slice() == other.heap.as_slice(),
+        }
+    }
+}
+
+impl<T: Copy + Eq> Eq for UnitVec<T> {
+    ghost use Rattle.std.specs.Cmp.{on_equiv};
+    ghost use Rattle.std.specs.Cmp.Lexicographic.{lists_equiv};
+
+    ghost laws = { on_equiv (λ v. v.items) (lists_equiv T.Eq.laws) };
 }
 
 impl<T: Copy + fmt::Debug> fmt::Debug for UnitVec<T> {

@@ -1,4 +1,4 @@
-use Rattle.std.proofs.Common.{ℕ, ◌<◌, ◌≤◌, ◌-◌, Bool, length}
+use Rattle.std.proofs.Common.{◌≤◌, ◌-◌, Bool, length}
 use Rattle.std.specs.Fn.{ComputesKey}
 use Rattle.pu_index.proofs.Searches.{Halved}
 use Rattle.pu_index.proofs.search.partition_point_exponential.Given as goal

@@ -1,4 +1,3 @@
-use Rattle.std.proofs.Common.{◌≤◌}
 use Rattle.std.specs.List.{IsLastBest}
 use Rattle.std.specs.Ordering.{is_gt}
 use Rattle.pu_index.proofs.slices.max_value.Given as goal

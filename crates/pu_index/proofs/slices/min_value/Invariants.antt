@@ -1,4 +1,3 @@
-use Rattle.std.proofs.Common.{◌≤◌}
 use Rattle.std.specs.List.{IsFirstBest}
 use Rattle.std.specs.Ordering.{is_lt}
 use Rattle.pu_index.proofs.slices.min_value.Given as goal

@@ -1,4 +1,4 @@
-use Rattle.std.proofs.Common.{◌≡◌, List, ◌++◌, drop, replicate, ap, ◌∙◌, refl}
+use Rattle.std.proofs.Common.{◌++◌, drop, replicate, ap, ◌∙◌}
 use Rattle.pu_index.specs.Padded.{padded}
 use Rattle.pu_index.proofs.Padded.{take-padded}
 use Rattle.pu_index.proofs.slices.padded.Goals as goal

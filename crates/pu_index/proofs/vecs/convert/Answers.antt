@@ -1,5 +1,5 @@
 -- The call at one more item.
-use Rattle.std.proofs.Common.{◌+◌, ◌∷◌, [], ◌++◌, take, refl, sym, ap, subst, ◌∙◌, arith, of_calls}
+use Rattle.std.proofs.Common.{◌∷◌, [], ◌++◌, take, refl, sym, ap, subst, ◌∙◌, arith, of_calls}
 use Rattle.std.specs.Fn.{CalledAt}
 use Rattle.std.proofs.lemmas.Fn.{called_at}
 use Rattle.std.proofs.lemmas.List.{take_more}

@@ -1,5 +1,5 @@
 -- The call at one more item.
-use Rattle.std.proofs.Common.{◌≡◌, ◌∷◌, [], ◌++◌, sym, ap, subst, ◌∙◌, append_assoc, of_calls, rules}
+use Rattle.std.proofs.Common.{◌∷◌, [], ◌++◌, sym, ap, subst, ◌∙◌, append_assoc, of_calls, rules}
 use Rattle.pu_index.specs.Calls.{Calls}
 use Rattle.pu_index.proofs.CallsPush.{Calls-push}
 use Rattle.pu_index.proofs.vecs.convert_owned.Goals as goal

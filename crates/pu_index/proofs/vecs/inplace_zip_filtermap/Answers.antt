@@ -1,5 +1,5 @@
 -- A turn takes the front of both queues, and puts what is kept at their backs.
-use Rattle.std.proofs.Common.{◌≡◌, ◌<◌, ◌∷◌, [], ◌++◌, length, refl, sym, ◌∙◌, arith, of_calls, rules}
+use Rattle.std.proofs.Common.{◌<◌, ◌∷◌, [], ◌++◌, length, refl, sym, ◌∙◌, arith, of_calls, rules}
 use Rattle.pu_index.proofs.CallsPush.{Calls-push}
 use Rattle.pu_index.proofs.Turn.{turn, append-none}
 use Rattle.pu_index.proofs.vecs.inplace_zip_filtermap.Goals as goal

@@ -1,7 +1,6 @@
-use Rattle.std.proofs.Common.{◌≡◌, ◌+◌, List, Option, length}
+use Rattle.std.proofs.Common.{List, Option, length}
 use Rattle.pu_index.proofs.Turn.{Side}
 use Rattle.pu_index.specs.Calls.{Calls}
-use Rattle.std.specs.VecDeque.{deque_len}
 use Rattle.pu_index.proofs.vecs.inplace_zip_filtermap.Given as goal
 
 abbrev pub invariant-loop-turn : goal.invariant-loop-turn

@@ -1,6 +1,5 @@
 -- The two parts that were joined come apart.
 use Rattle.std.proofs.Common.{◌≡◌, ◌+◌, ◌*◌, ◌%◌, ◌^◌, arith, rules}
-use Rattle.std.proofs.lemmas.Grind.{common_steps}
 use Rattle.pu_index.specs.Parts.{joined}
 use Rattle.pu_index.proofs.StoredParts.{parts-joined}
 use Rattle.pu_index.proofs.chunk_id.ChunkId.store.Goals as goal
