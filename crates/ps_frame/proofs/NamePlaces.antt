@@ -1,6 +1,6 @@
 -- Where names stand, and a map that finds them.
 use Rattle.std.proofs.Common.{◌≡◌, ℕ, zero, suc, ◌+◌, ◌<◌, ◌≤◌, take, get_or, length, List, [], ◌∷◌, ◌++◌, Bool, true, false, IsTrue, refl, sym, ◌∙◌, ap, subst, arith}
-use Rattle.std.specs.Prelude.{not, ◌||◌, if◌then◌else◌, nat_lt, is_some, Option, Some, None, option_map, slice_get, position}
+use Rattle.std.specs.Prelude.{not, ◌||◌, if◌then◌else◌, nat_lt, is_some, Option, Some, None, option_map, position}
 use Rattle.std.specs.List.{position_or_len, list_any}
 use Rattle.std.specs.Cmp.{nat_eq_equiv}
 use Rattle.std.specs.Cmp.Lexicographic.{bytes_decides, lists_equiv}
@@ -67,6 +67,7 @@ finds-more fields f i before after found absent last put name = put name ∙ by 
   where
     symmetric : bytes_eq name f.0 ≡ bytes_eq f.0 name
     symmetric = (lists_equiv nat_eq_equiv).symm name f.0
+
     by : (b : Bool) → bytes_eq f.0 name ≡ b → (if b then Some i else get_by_text before name) ≡ field_index name (fields ++ f ∷ [])
     by true q =
         let same : f.0 ≡ name = (bytes_decides f.0 name).0 q in
