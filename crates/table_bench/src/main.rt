@@ -12,19 +12,17 @@ use std::env;
 use work::Work;
 
 // The work of a word, on so many rows, done so many times.
-fn run(
-    rt: &impl Print,
-    alloc: Global,
-    word: &str,
-    rows: &str,
-    times: &str,
-) -> anyhow::Result<()> {
+fn run(rt: &impl Print, alloc: Global, word: &str, rows: &str, times: &str) -> anyhow::Result<()> {
     let Some(work) = Work::of_word(word) else {
         bail!("the work is build, share, slice, filter, filter_all, vstack or vstack_empty");
     };
     let made = table::make(alloc, rows.parse()?)?;
     let done = work::repeat(alloc, work, &made, times.parse()?)?;
-    println!(rt; "{} rows, checksum {}", done.height(), table::checksum(&done))?;
+    println!(rt;
+        "{} rows, checksum {}",
+        done.height(),
+        table::checksum(&done)
+    )?;
     Ok(())
 }
 

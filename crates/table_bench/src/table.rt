@@ -90,10 +90,10 @@ fn weight(value: &Value) -> u64 {
         Value::Boolean(holds) => u64::from(*holds),
         Value::Int64(number) => number.unsigned_abs(),
         Value::IdxSize(id) => u64::from(*id),
-        Value::String(text) => text
-            .as_bytes()
-            .iter()
-            .fold(0, |sum: u64, byte| sum.wrapping_mul(31).wrapping_add(u64::from(*byte))),
+        Value::String(text) => text.as_bytes().iter().fold(
+            0,
+            |sum: u64, byte| sum.wrapping_mul(31).wrapping_add(u64::from(*byte)),
+        ),
     }
 }
 

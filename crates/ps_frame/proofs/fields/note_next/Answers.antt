@@ -1,7 +1,6 @@
-use Rattle.std.proofs.Common.{◌≤◌, ◌+◌, length, arith, sym, subst}
+use Rattle.std.proofs.Common.{◌≤◌, length, arith}
 use Rattle.std.proofs.lemmas.Result.{on_ok_weaker}
 use Rattle.ps_frame.proofs.NamePlaces.{found-few-more, found-more}
-use Rattle.ps_frame.specs.Places.{AreFound}
 use Rattle.ps_frame.specs.declared.fields.TheConstants.{MANY}
 use Rattle.ps_frame.proofs.fields.note_next.Goals as goal
 

@@ -1,4 +1,4 @@
-use Rattle.std.proofs.Common.{◌≡◌, List, ap, subst, sym}
+use Rattle.std.proofs.Common.{◌≡◌, List, ap, subst, sym, ◌∙◌}
 use Rattle.std.specs.Prelude.{IfOk}
 use Rattle.ps_frame.proofs.Lists.{list_all-drop, list_all-take}
 use Rattle.ps_frame.proofs.Masks.{kept-all, list_all-kept}
