@@ -8,3 +8,4 @@ pub mod Names
 pub mod Masks
 pub mod Broadcasts
 pub mod SmallCases
+pub mod NamePlaces

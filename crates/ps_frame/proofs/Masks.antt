@@ -138,3 +138,28 @@ rows_of-kept_at ms cs h e p =
     ap (λ (n : ℕ). rows_of n (column_values (map (kept_of ms) cs))) (sym (trues-is ms))
     ∙ rows_of-kept ms cs (subst (λ (n : ℕ). AllOfHeight n cs) (sym e) p)
     ∙ ap (λ (n : ℕ). kept ms (rows_of n (column_values cs))) e
+
+-- no more values are true than there are
+trues-le-length : (ms : List Value) → trues ms ≤ length ms
+trues-le-length [] = omega arith
+trues-le-length (m ∷ ms) = one (is_true m) (trues ms) (length ms) (trues-le-length ms)
+  where
+    one : (t : Bool) (n k : ℕ) → n ≤ k → (if t then suc n else n) ≤ suc k
+    one true n k h = omega arith
+    one false n k h = omega arith
+
+all-true : (t : Bool) (n k : ℕ) → (if t then suc n else n) ≡ suc k → n ≤ k → (t ≡ true) × (n ≡ k)
+all-true true n k e h = (refl, omega arith)
+all-true false n k e h = absurd (omega arith)
+
+-- a mask of which each value is true keeps each item
+kept-each : {A : Type 0} (ms : List Value) (xs : List A) → trues ms ≡ length ms → length ms ≡ length xs → kept ms xs ≡ xs
+kept-each [] [] e h = refl
+kept-each [] (x ∷ xs) e h = absurd (omega arith)
+kept-each (m ∷ ms) [] e h = absurd (omega arith)
+kept-each (m ∷ ms) (x ∷ xs) e h =
+    let holds = all-true (is_true m) (trues ms) (length ms) e (trues-le-length ms) in
+    ap (λ t. if t then x ∷ kept ms xs else kept ms xs) holds.0 ∙ ap (λ ys. x ∷ ys) (kept-each ms xs holds.1 (omega arith))
+
+pub kept-all : {A : Type 0} (ms : List Value) (xs : List A) → count_by is_true ms ≡ length ms → length ms ≡ length xs → kept ms xs ≡ xs
+kept-all ms xs e h = kept-each ms xs (trues-is ms ∙ e) h

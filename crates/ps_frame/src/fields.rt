@@ -1,30 +1,41 @@
-// Fields whose names differ.
-ghost use Rattle.std.specs.Prelude.{◌≡◌, ◌++◌, ◌∷◌, [], IsFalse, IfOk, OnOk, OnErr, Err, None};
-ghost use Rattle.ps_frame.specs.Frames.{has_name, shared_name};
+// Fields whose names differ, found by name.
+ghost use Rattle.std.specs.Prelude.{◌≡◌, ◌++◌, ◌∷◌, [], List, ℕ, IsTrue, IsFalse, IfOk, OnOk, OnErr, Err, None, Some, if◌then◌else◌};
+ghost use Rattle.std.specs.HashMap.{get_by_text};
+ghost use Rattle.std.specs.Str.{bytes_eq};
+ghost use Rattle.ps_frame.specs.Frames.{has_distinct_names, has_name, shared_name};
+ghost use Rattle.ps_frame.specs.Places.{AreFound, FindsEach};
 ghost use Rattle.ps_frame.specs.Tables.{field_index};
+ghost use Rattle.ps_frame.specs.declared.value.DataType.{DataType};
 
 use crate::error::FrameError;
 use crate::value::DataType;
 use pu_order::PlSmallStr;
 use std::alloc::{AllocError, Global};
+use std::collections::HashMap;
 use std::marker::Model;
+
+// From so many names on a map finds them. A few are found faster by comparing each.
+const MANY: usize = 16;
 
 /// Names, which differ, with their kinds, in order.
 #[derive(Drop)]
 pub(crate) struct Fields {
     list: Vec<(PlSmallStr, DataType)>,
+    // Where each name stands, if there are many.
+    places: Option<HashMap<String, usize>>,
 }
 
 impl Model for Fields {
-    ghost use Rattle.std.specs.Prelude.{IsTrue, List, ℕ};
+    ghost use Rattle.std.specs.Prelude.{List, ℕ};
     ghost use Rattle.ps_frame.specs.declared.value.DataType.{DataType};
-    ghost use Rattle.ps_frame.specs.Frames.{has_distinct_names};
+    ghost use Rattle.ps_frame.specs.declared.fields.TheConstants.{MANY};
+    ghost use Rattle.ps_frame.specs.Places.{AreFound};
 
     ghost Value = { List (List ℕ × DataType) };
 
     ghost view = { λ a. a.list.items };
 
-    ghost invariant = { λ a. IsTrue (has_distinct_names a.list.items) };
+    ghost invariant = { λ a. AreFound MANY a.list.items a.places };
 }
 
 impl Fields {
@@ -34,7 +45,23 @@ impl Fields {
     {
         Fields {
             list: Vec::new(alloc),
+            places: None,
         }
+    }
+
+    // The fields of a list, whose names differ.
+    fn from_list(alloc: Global, list: Vec<(PlSmallStr, DataType)>) -> Result<Fields, AllocError>
+        requires { IsTrue (has_distinct_names list.items) }
+        ensures { IfOk result (λ fields. fields ≡ list.items) }
+    {
+        if list.len() < MANY {
+            return Ok(Fields { list, places: None });
+        }
+        let places = places_of(alloc, list.as_slice())?;
+        Ok(Fields {
+            list,
+            places: Some(places),
+        })
     }
 
     // The fields, in order.
@@ -48,23 +75,33 @@ impl Fields {
     pub(crate) fn place(&self, name: &str) -> Option<usize>
         ensures { result ≡ field_index name.now self.now }
     {
-        self.list.iter().position(|f| f.0.eq_str(name))
+        match &self.places {
+            Some(places) => places.get(name).copied(),
+            None => self.list.iter().position(|f| f.0.eq_str(name)),
+        }
     }
 
     // Whether a name stands.
     pub(crate) fn contains(&self, name: &str) -> bool
         ensures { result ≡ has_name name.now self.now }
     {
-        self.list.iter().any(|f| f.0.eq_str(name))
+        self.place(name).is_some()
     }
 
     // One more field, whose name doesn't stand yet.
-    pub(crate) fn push(&mut self, name: PlSmallStr, dtype: DataType) -> Result<(), AllocError>
+    pub(crate) fn push(
+        &mut self,
+        alloc: Global,
+        name: PlSmallStr,
+        dtype: DataType,
+    ) -> Result<(), AllocError>
         requires { IsFalse (has_name name self.old) }
         ensures added { OnOk result (self.new ≡ self.old ++ (name, dtype) ∷ []) }
         ensures unchanged { OnErr result (self.new ≡ self.old) }
     {
-        self.list.push((name, dtype))?;
+        self.list.reserve(1)?;
+        note_next(alloc, &mut self.places, self.list.as_slice(), name.as_str())?;
+        self.list.push_reserved((name, dtype));
         Ok(())
     }
 
@@ -74,7 +111,8 @@ impl Fields {
         ensures memory { OnErr result (result ≡ Err FrameError.OutOfMemory) }
     {
         let list = clone_fields(alloc, self.list.as_slice())?;
-        Ok(Fields { list })
+        let fields = Fields::from_list(alloc, list)?;
+        Ok(fields)
     }
 
     // These fields, and then others, which share no name with them.
@@ -85,8 +123,62 @@ impl Fields {
     {
         let mut list = clone_fields(alloc, self.list.as_slice())?;
         append_fields(alloc, &mut list, other.list.as_slice())?;
-        Ok(Fields { list })
+        let fields = Fields::from_list(alloc, list)?;
+        Ok(fields)
     }
+}
+
+// Notes where the name stands that comes next, if there are many with it.
+fn note_next(
+    alloc: Global,
+    places: &mut Option<HashMap<String, usize>>,
+    list: &[(PlSmallStr, DataType)],
+    name: &str,
+) -> Result<(), AllocError>
+    requires found { AreFound MANY list.now places.old }
+    requires absent { IsFalse (has_name name.now list.now) }
+    ensures noted { OnOk result ((dtype : DataType) → AreFound MANY (list.now ++ (name.now, dtype) ∷ []) places.new) }
+    ensures unchanged { OnErr result (AreFound MANY list.now places.new) }
+{
+    if let Some(places) = places {
+        return insert_place(alloc, places, name, list.len());
+    }
+    if list.len() + 1 < MANY {
+        return Ok(());
+    }
+    let mut first = places_of(alloc, list)?;
+    insert_place(alloc, &mut first, name, list.len())?;
+    *places = Some(first);
+    Ok(())
+}
+
+// Where each name stands.
+fn places_of(
+    alloc: Global,
+    list: &[(PlSmallStr, DataType)],
+) -> Result<HashMap<String, usize>, AllocError>
+    requires { IsTrue (has_distinct_names list.now) }
+    ensures { IfOk result (λ places. FindsEach list.now places) }
+{
+    let mut places = HashMap::with_capacity(alloc, list.len())?;
+    for (i, field) in list.iter().enumerate() {
+        insert_place(alloc, &mut places, field.0.as_str(), i)?;
+    }
+    Ok(places)
+}
+
+fn insert_place(
+    alloc: Global,
+    places: &mut HashMap<String, usize>,
+    name: &str,
+    place: usize,
+) -> Result<(), AllocError>
+    ensures put { OnOk result ((other : List ℕ) → get_by_text places.new other ≡ (if bytes_eq name.now other then Some place else get_by_text places.old other)) }
+    ensures unchanged { OnErr result ((other : List ℕ) → get_by_text places.new other ≡ get_by_text places.old other) }
+{
+    let key = String::from_str(alloc, name)?;
+    places.insert(key, place)?;
+    Ok(())
 }
 
 fn clone_fields(

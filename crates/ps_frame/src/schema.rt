@@ -146,11 +146,11 @@ impl Schema {
         ensures unchanged { OnErr result (self.new ≡ self.old) }
     {
         if let Held::Own(fields) = &mut self.held {
-            fields.push(name, dtype)?;
+            fields.push(alloc, name, dtype)?;
             return Ok(());
         }
         let mut fields = self.fields().try_clone(alloc)?;
-        fields.push(name, dtype)?;
+        fields.push(alloc, name, dtype)?;
         self.held = Held::Own(fields);
         Ok(())
     }

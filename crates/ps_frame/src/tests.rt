@@ -33,6 +33,16 @@ fn schema_of(alloc: Global, name: &str) -> Result<Schema, FrameError> {
     Ok(schema)
 }
 
+// The names c0, c1 and so on.
+fn counted_names(alloc: Global, count: u8) -> Result<Schema, FrameError> {
+    let mut schema = Schema::new(alloc);
+    for i in 0..count {
+        let name = format!(in alloc; "c{i}")?;
+        schema.push(alloc, PlSmallStr::from_string(name), DataType::Int64)?;
+    }
+    Ok(schema)
+}
+
 // One column of that name with the numbers.
 fn table(alloc: Global, name: &str, height: u8) -> Result<DataFrame, FrameError> {
     let schema = schema_of(alloc, name)?;
@@ -66,6 +76,19 @@ fn schemas_refuse_a_name_that_stands(rt: HostRuntime) -> Result<(), Fail> {
     assert!(rt; !schema.is_empty());
     assert_eq!(rt; schema.index_of("a"), Some(0));
     assert_eq!(rt; schema.index_of("b"), None);
+    Ok(())
+}
+
+#[test]
+fn a_name_is_found_among_twenty(rt: HostRuntime) -> Result<(), Fail> {
+    let mut schema = counted_names(rt.alloc(), 20)?;
+    assert_eq!(rt; schema.index_of("c0"), Some(0));
+    assert_eq!(rt; schema.index_of("c19"), Some(19));
+    assert_eq!(rt; schema.index_of("c20"), None);
+    let refused = schema.push(rt.alloc(), text(rt.alloc(), "c17")?, DataType::Int64);
+    assert!(rt; matches!(refused, Err(FrameError::Duplicate { .. })));
+    let joined = schema_of(rt.alloc(), "a")?.joined(rt.alloc(), &schema)?;
+    assert_eq!(rt; joined.index_of("c19"), Some(20));
     Ok(())
 }
 

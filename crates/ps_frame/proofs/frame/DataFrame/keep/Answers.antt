@@ -4,8 +4,8 @@ use Rattle.ps_frame.proofs.Rows.{length-rows_of}
 use Rattle.ps_frame.proofs.frame.DataFrame.keep.Goals as goal
 use Rattle.ps_frame.proofs.frame.DataFrame.keep.Goals.{After-as_slice, After-count_true-height}
 
-pub keep_all-requires : goal.keep_all-requires
-keep_all-requires c =
+pub keep_all-requires-clause-height : goal.keep_all-requires-clause-height
+keep_all-requires-clause-height c =
     let a = c.self.inside in
     let long = rw (← c.self.view_is) at c.requires in
     let e : length c.args.mask.now ≡ a.height = long ∙ length-rows_of a.height a.columns.items c.self.invariant.heights in
