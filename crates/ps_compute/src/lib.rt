@@ -6,3 +6,5 @@ pub mod casts;
 pub mod operators;
 pub mod order;
 pub mod selection;
+#[cfg(test)]
+mod tests;
