@@ -1,7 +1,8 @@
 //! A function with a cache of its answers.
-ghost use Rattle.std.specs.Prelude.{◌≡◌, ◌≤◌, ◌^◌, Err, IfOk, OnErr};
+ghost use Rattle.std.specs.Prelude.{◌≡◌, ◌≤◌, ◌^◌, true, false, Some, None, Err, IfSome, IfOk, OnErr};
 ghost use Rattle.std.specs.Fn.{AlwaysReturns};
 ghost use Rattle.pu_order.specs.declared.error.PolarsUtilsError.TheVariants as refusal;
+ghost use Rattle.pu_map.specs.Cache.{key_hash, place_of, place_to_fill, value_at, touched, filled};
 ghost use Rattle.pu_map.specs.CachedFunc.{DependsOnArgument, Computes};
 
 use crate::cache::FastFixedCache;
@@ -40,6 +41,9 @@ impl<T: Hash + Eq + Clone + Drop, R: Copy, F: FnMut(T) -> R> FastCachedFunc<T, R
         ensures callable { F.IsAlwaysCallable self.new.func }
         ensures answers { (answer : T → R) → DependsOnArgument T.eq T.is_clone answer → Computes F.FnMut answer self.old → IfOk result (λ r. r ≡ answer x) }
         ensures computes { (answer : T → R) → DependsOnArgument T.eq T.is_clone answer → Computes F.FnMut answer self.old → Computes F.FnMut answer self.new }
+        ensures direct { use_cache ≡ false → IfOk result (λ r. F.step self.old.func x r self.new.func × (self.new.cache ≡ self.old.cache)) }
+        ensures found { use_cache ≡ true → IfSome (place_of T.eq self.old.cache.slots (key_hash (T.hash_input x)) x) (λ i. (self.new.func ≡ self.old.func) × (self.new.cache ≡ touched self.old.cache i) × IfOk result (λ r. value_at self.old.cache.slots (Some i) ≡ Some r)) }
+        ensures put { use_cache ≡ true → place_of T.eq self.old.cache.slots (key_hash (T.hash_input x)) x ≡ None → IfOk result (λ r. F.step self.old.func x r self.new.func × ((key : T) × T.is_clone x key × (self.new.cache ≡ filled self.old.cache (place_to_fill T.eq self.old.cache.slots (key_hash (T.hash_input key)) key) key r))) }
         ensures unchanged { OnErr result (self.new ≡ self.old) }
         ensures memory { OnErr result (result ≡ Err refusal.OutOfMemory) }
     {
