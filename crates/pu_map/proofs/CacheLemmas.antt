@@ -1,5 +1,5 @@
 -- Lemmas on the slots of a cache.
-use Rattle.std.proofs.Common.{◌≡◌, ℕ, zero, suc, ◌<◌, List, [], ◌∷◌, ◌++◌, length, get_or, set, Option, Some, None, Ok, Result, IfSome, refl, sym, ap, ◌∙◌, subst, arith}
+use Rattle.std.proofs.Common.{◌≡◌, ℕ, zero, suc, ◌<◌, List, [], ◌∷◌, ◌++◌, length, set, Option, Some, None, Ok, Result, IfSome, refl, sym, ap, ◌∙◌, subst, arith}
 use Rattle.std.specs.Option.{option_map, UnwrapsOrElse}
 use Rattle.pu_map.specs.declared.cache.CacheSlot.{CacheSlot}
 use Rattle.pu_map.specs.Cache.{CacheState, slot_at, slot_with_value, aged, value_at, with_value, touched, filled, IsGot, counter_after}
@@ -44,8 +44,7 @@ module _ {K V : Type 0} where
     got E (Some p) hit miss =
         let at : i ≡ p = cc in
         let kept : value_at (touched c p).slots (Some p) ≡ value_at c.slots (Some p) = value-aged c.slots p c.counter in
-        let found : value_at c.slots (Some p) ≡ Some x = sym kept ∙ ap (λ (m : CacheState K V). value_at m.slots (Some p)) (sym hit.1) ∙ ap (λ j. value_at n.slots (Some j)) (sym at) ∙ read in
-        (
+        let found : value_at c.slots (Some p) ≡ Some x = sym kept ∙ ap (λ (m : CacheState K V). value_at m.slots (Some p)) (sym hit.1) ∙ ap (λ j. value_at n.slots (Some j)) (sym at) ∙ read in (
           λ w. ap (λ j. with_value n j w) at ∙ ap (λ m. with_value m p w) hit.1,
           subst (λ o. UnwrapsOrElse o (λ value. (key : K) × Made key value) x) (sym found) refl,
         )
@@ -55,8 +54,7 @@ module _ {K V : Type 0} where
         let value = put.1.1 in
         let after : n ≡ filled c i key value = put.1.3 in
         let held = value-read c.slots i (record { last_access = c.counter; key = key; value = value }) x (ap (λ (m : CacheState K V). value_at m.slots (Some i)) (sym after) ∙ read) in
-        let made : Made key x = subst (λ v. Made key v) held.0 put.1.2 in
-        (
+        let made : Made key x = subst (λ v. Made key v) held.0 put.1.2 in (
           λ w. (key, made, ap (λ m. with_value m i w) after ∙ ap (λ slots. record { slots = slots; counter = counter_after c.counter }) (value-refilled c.slots i (record { last_access = c.counter; key = key; value = value }) w held.1) ∙ ap (λ j. filled c j key w) put.0),
           (key, made),
         )

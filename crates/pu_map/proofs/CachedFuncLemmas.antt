@@ -2,7 +2,7 @@
 use Rattle.std.proofs.Common.{◌≡◌, ℕ, zero, suc, List, [], ◌∷◌, set, Option, Some, None, IfSome}
 use Rattle.std.specs.Fn.{Mut, Called, AlwaysReturns}
 use Rattle.pu_map.specs.declared.cache.CacheSlot.{CacheSlot}
-use Rattle.pu_map.specs.Cache.{CacheState, slot_at, aged, looked_up, filled}
+use Rattle.pu_map.specs.Cache.{CacheState, slot_at, aged, looked_up}
 
 module _ {T R F : Type 0} (g : Mut F (T × Unit {0}) R) (answer : T → R) where
   -- a call's answer, and that the next calls answer too

@@ -1,5 +1,5 @@
 -- A cache of a fixed number of slots, of which each key has two.
-use Rattle.std.specs.Prelude.{◌≡◌, ℕ, ◌+◌, ◌-◌, ◌*◌, ◌%◌, ◌^◌, Bool, false, List, length, Option, Some, None, slice_index_or, slice_set, nat_le, if◌then◌else◌, option_and_then, fold, refl, ⊤}
+use Rattle.std.specs.Prelude.{◌≡◌, ℕ, ◌+◌, ◌-◌, ◌*◌, ◌%◌, ◌^◌, Bool, false, List, length, Option, Some, None, slice_index_or, slice_set, nat_le, if◌then◌else◌, option_and_then, fold, refl}
 use Rattle.std.specs.Option.{option_map}
 use Rattle.std.specs.Coded.{Coded, code_by, coded×, coded_ℕ, coded_list, coded_option}
 use Rattle.std.specs.Borrow.{Bor}

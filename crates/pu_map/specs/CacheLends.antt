@@ -1,5 +1,5 @@
 -- What a cache ends as, once a reference to one of its values has ended.
-use Rattle.std.specs.Prelude.{◌≡◌, ℕ, Bool, Option, Some, Result, IfOk, OnErr, ⊤}
+use Rattle.std.specs.Prelude.{◌≡◌, ℕ, Option, Some, Result, IfOk, OnErr, ⊤}
 use Rattle.std.specs.Borrow.{Lends, LendsIf, Fml, RattleType, MutBor, follows_so, name_if_ok}
 use mathlib.Core.Option as maybe
 use Rattle.std.specs.contracts.option.Option.{the_row as option_row}
