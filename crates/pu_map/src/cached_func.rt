@@ -1,8 +1,9 @@
 //! A function with a cache of its answers.
-ghost use Rattle.std.specs.Prelude.{◌≡◌, ◌≤◌, ◌^◌, true, false, Some, None, Err, IfSome, IfOk, OnErr};
+ghost use Rattle.std.specs.Prelude.{◌≡◌, ℕ, ◌<◌, ◌≤◌, ◌/◌, ◌^◌, max, length, true, false, Some, None, Err, IfSome, IfOk, OnErr};
 ghost use Rattle.std.specs.Fn.{AlwaysReturns};
+ghost use Rattle.std.specs.Int.{IsPowerOfTwo};
 ghost use Rattle.pu_order.specs.declared.error.PolarsUtilsError.TheVariants as refusal;
-ghost use Rattle.pu_map.specs.Cache.{key_hash, place_of, place_to_fill, value_at, touched, filled};
+ghost use Rattle.pu_map.specs.Cache.{key_hash, slot_at, place_of, place_to_fill, value_at, touched, filled};
 ghost use Rattle.pu_map.specs.CachedFunc.{DependsOnArgument, Computes};
 
 use crate::cache::FastFixedCache;
@@ -24,6 +25,11 @@ impl<T: Hash + Eq + Clone + Drop, R: Copy, F: FnMut(T) -> R> FastCachedFunc<T, R
         F: Drop,
         requires { size ≤ 2 ^ 31 }
         ensures func { IfOk result (λ c. c.func ≡ func) }
+        ensures power { IfOk result (λ c. IsPowerOfTwo (length c.cache.slots)) }
+        ensures enough { IfOk result (λ c. max size 16 ≤ length c.cache.slots) }
+        ensures least { IfOk result (λ c. length c.cache.slots / 2 < max size 16) }
+        ensures empty { IfOk result (λ c. (i : ℕ) → slot_at c.cache.slots i ≡ None) }
+        ensures counter { IfOk result (λ c. c.cache.counter ≡ 1) }
         ensures computes { (answer : T → R) → AlwaysReturns F.FnMut (λ x r. r ≡ answer x.0) func → IfOk result (Computes F.FnMut answer) }
         ensures memory { OnErr result (result ≡ Err refusal.OutOfMemory) }
     {
