@@ -2,3 +2,4 @@ pub mod ChainLemmas
 pub mod LinkLemmas
 pub mod SketchLemmas
 pub mod CacheLemmas
+pub mod CachedFuncLemmas

@@ -1,5 +1,5 @@
 -- Lemmas on the links of a table of keys.
-use Rattle.std.proofs.Common.{◌≡◌, ◌≢◌, ◌⊎◌, ℕ, zero, suc, ◌+◌, ◌-◌, ◌<◌, ◌≤◌, List, [], ◌∷◌, ◌++◌, length, get_or, set, map, take, drop, slice_get, Option, Some, unwrap_or, refl, sym, ap, subst, ◌∙◌, inl, inr, arith, length-drop, length-append, ◌^◌}
+use Rattle.std.proofs.Common.{◌≡◌, ◌⊎◌, ℕ, zero, suc, ◌+◌, ◌-◌, ◌<◌, ◌≤◌, List, [], ◌∷◌, ◌++◌, length, get_or, set, map, take, drop, slice_get, Option, Some, unwrap_or, refl, sym, ap, subst, ◌∙◌, inl, inr, arith, length-drop, length-append, ◌^◌}
 use Rattle.std.proofs.lemmas.Bool.{cases_eq}
 use Rattle.std.proofs.lemmas.Bool.Decides.{leb_tells}
 use Rattle.std.proofs.lemmas.List.{map-set, length-map, get_or-map, map_push, length_push, take-append-le, drop-append-le, take_all}

@@ -1,7 +1,9 @@
 -- A cache of a fixed number of slots, of which each key has two.
-use Rattle.std.specs.Prelude.{◌≡◌, ℕ, ◌+◌, ◌-◌, ◌*◌, ◌%◌, ◌^◌, Bool, false, List, length, Option, Some, None, slice_index_or, slice_set, nat_le, if◌then◌else◌, option_and_then, fold, refl, ⊤}
+use Rattle.std.specs.Prelude.{◌≡◌, ℕ, ◌+◌, ◌-◌, ◌*◌, ◌%◌, ◌^◌, Bool, false, List, length, Option, Some, None, slice_index_or, slice_set, nat_le, if◌then◌else◌, option_and_then, fold, refl}
 use Rattle.std.specs.Option.{option_map}
 use Rattle.std.specs.Coded.{Coded, code_by, coded×, coded_ℕ, coded_list, coded_option}
+use Rattle.std.specs.Borrow.{Bor}
+use Rattle.std.specs.Fn.{Once, FnOnceReturnsAt}
 use Rattle.std.specs.Hash.{HashWrites}
 use Rattle.std.specs.Hash.FoldHasher as folding
 use Rattle.pu_order.specs.Hashing.{partition_of}
@@ -45,6 +47,10 @@ second_place n hash = partition_of (hash * 0x921932b06a233d39 % 2 ^ 64) n
 -- the age of the access after this one
 abbrev pub counter_after : ℕ → ℕ
 counter_after n = (n + 2) % 2 ^ 32
+
+-- the copy is a clone of the key, and the answer one that the function f gives for it
+abbrev pub AnswersCopy : {F K R : Type 0} → (K → K → Type 0) → Once F (Bor K × Unit {0}) R → F → K → K → R → Type 0
+AnswersCopy IsClone g f key copy answer = IsClone key copy × FnOnceReturnsAt g f copy answer
 
 module _ {K V : Type 0} where
   -- what a slot holds
@@ -120,3 +126,9 @@ module _ {K V : Type 0} where
     slots = slice_set c.slots i (Some (record { last_access = c.counter; key = key; value = value }));
     counter = counter_after c.counter;
   }
+
+  -- the cache where the value w was written at the first place, which a look-up found and hit; where it found none, a key that was
+  -- made stands with w at the second
+  abbrev pub IsGot : (K → Type 0) → CacheState K V → Option ℕ → ℕ → V → CacheState K V → Type 0
+  IsGot Made c (Some i) j w n = n ≡ with_value (touched c i) i w
+  IsGot Made c None j w n = (key : K) × Made key × (n ≡ filled c j key w)

@@ -1,9 +1,9 @@
 -- What a cache ends as, once a reference to one of its values has ended.
-use Rattle.std.specs.Prelude.{◌≡◌, ℕ, Bool, Option, Some, ⊤}
-use Rattle.std.specs.Borrow.{Lends, LendsIf, Fml, RattleType, MutBor, follows_so}
-use mathlib.Core.Option.{none}
+use Rattle.std.specs.Prelude.{◌≡◌, ℕ, Option, Some, Result, IfOk, OnErr, ⊤}
+use Rattle.std.specs.Borrow.{Lends, LendsIf, Fml, RattleType, MutBor, follows_so, name_if_ok}
+use mathlib.Core.Option as maybe
 use Rattle.std.specs.contracts.option.Option.{the_row as option_row}
-use Rattle.pu_map.specs.Cache.{CacheState, slot_with_value, with_value, looked_up, written, touched, filled}
+use Rattle.pu_map.specs.Cache.{CacheState, slot_with_value, with_value, looked_up, written, touched, filled, IsGot}
 use Rattle.pu_map.specs.declared.cache.CacheSlot.{CacheSlot}
 use Rattle.pu_map.specs.contracts.cache.CacheSlot as slot
 use Rattle.pu_map.specs.contracts.cache.FastFixedCache.{the_row}
@@ -31,8 +31,15 @@ module _ (K V : RattleType) where
 
     -- the cache is as after a look-up
     abbrev pub ends_looked_up : Option ℕ → Fml
-    ends_looked_up place = follows_so (the_row K V) (the_row K V) c.ghost_name none (λ _ _. ⊤) (λ n. n ≡ looked_up c.now place)
+    ends_looked_up place = follows_so (the_row K V) (the_row K V) c.ghost_name maybe.none (λ _ _. ⊤) (λ n. n ≡ looked_up c.now place)
 
     -- the slot was filled with the key and the last value written through r
     abbrev pub lends_filled : ℕ → K.Denot → MutBor V.Denot → Fml
     lends_filled i key r = Lends (the_row K V) V c r (filled c.now i key)
+
+    -- the cache has what a look-up found or else put in, with the last value written through r; at `Err` it stays as it is
+    abbrev pub lends_got : {E : Type 0} → Option ℕ → ℕ → (K.Denot → V.Denot → Type 0) → Result (MutBor V.Denot) E → Fml
+    lends_got place free Made r =
+        follows_so (the_row K V) V c.ghost_name (name_if_ok (λ x. x.ghost_name) r)
+        (λ w n. IfOk r (λ x. IsGot (λ key. Made key x.now) c.now place free w n))
+        (λ n. OnErr r (n ≡ c.now))

@@ -1,6 +1,6 @@
 -- Chains: for each bucket the numbers of its keys, from the last one that was put in to the first.
 -- A place is one more than a number, and 0 is the end of a chain.
-use Rattle.std.specs.Prelude.{◌≡◌, ◌≢◌, ℕ, ◌+◌, ◌-◌, ◌*◌, ◌%◌, ◌^◌, ◌<◌, ◌≤◌, List, length, slice_index}
+use Rattle.std.specs.Prelude.{◌≡◌, ◌≢◌, ℕ, ◌-◌, ◌*◌, ◌%◌, ◌^◌, ◌<◌, ◌≤◌, List, length, slice_index}
 use Rattle.pu_order.specs.Hashing.{partition_of}
 
 -- the bucket of a hash among so many

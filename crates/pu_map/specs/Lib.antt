@@ -8,3 +8,4 @@ pub mod Sketch
 pub mod Partitioned
 pub mod Cache
 pub mod CacheLends
+pub mod CachedFunc

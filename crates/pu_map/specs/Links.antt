@@ -1,5 +1,5 @@
 -- How a table of keys keeps its hashes, its keys' bytes and its chains.
-use Rattle.std.specs.Prelude.{◌≡◌, ℕ, ◌+◌, ◌<◌, ◌≤◌, ◌^◌, List, length, map, take, drop, slice_get, Some, All}
+use Rattle.std.specs.Prelude.{◌≡◌, ℕ, ◌+◌, ◌<◌, ◌≤◌, ◌^◌, List, length, map, take, drop, slice_get, Some}
 use Rattle.pu_map.specs.declared.key_table.Link.{Link}
 use Rattle.pu_map.specs.Keys.{Key, AreDistinct}
 use Rattle.pu_map.specs.Chains.{IsChained, bucket_of}

@@ -1,10 +1,10 @@
 //! A cache of a fixed size. Each key has two slots by its hash, and an insert takes the older of them where neither is free.
-ghost use Rattle.std.specs.Prelude.{◌≡◌, ℕ, ◌<◌, ◌≤◌, ◌/◌, ◌^◌, max, length, Some, None, Err, IsSome, IfSome, IfOk, OnErr, option_copied, slice_set, vec_len};
-ghost use Rattle.std.specs.Option.{option_copied_mut};
+ghost use Rattle.std.specs.Prelude.{◌≡◌, ℕ, ◌<◌, ◌≤◌, ◌/◌, ◌^◌, max, length, Some, None, Ok, Err, IsSome, IsOk, IfSome, IfOk, IfErr, OnOk, OnErr, option_copied, slice_set, vec_len};
+ghost use Rattle.std.specs.Option.{option_copied_mut, UnwrapsOrElse};
 ghost use Rattle.std.specs.Int.{IsPowerOfTwo};
 ghost use Rattle.std.specs.Borrow.{sem};
 ghost use Rattle.pu_order.specs.declared.error.PolarsUtilsError.TheVariants as refusal;
-ghost use Rattle.pu_map.specs.Cache.{key_hash, first_place, second_place, slot_at, place_of, place_to_fill, value_at, touched, filled};
+ghost use Rattle.pu_map.specs.Cache.{key_hash, first_place, second_place, slot_at, place_of, place_to_fill, value_at, touched, filled, AnswersCopy};
 
 use pu_order::{Result, hash_to_partition};
 use std::alloc::{AllocError, Global};
@@ -12,6 +12,15 @@ use std::hash::{FoldHasher, Hash, Hasher};
 use std::marker::Model;
 
 const MIN_FAST_FIXED_CACHE_SIZE: usize = 16;
+
+/// Why a value could not be made and put in.
+#[derive(Debug, PartialEq, Eq, Drop)]
+pub enum TryInsertError<E> {
+    /// There was no memory for a copy of the key.
+    OutOfMemory,
+    /// The function that makes the value answered this error.
+    Refused(E),
+}
 
 /// What a slot holds, and when it was last hit or filled.
 #[derive(Drop)]
@@ -193,7 +202,8 @@ impl<K: Clone, V: Clone> FastFixedCache<K, V> {
 }
 
 impl<K: Hash + Eq, V> FastFixedCache<K, V> {
-    ghost use Rattle.pu_map.specs.CacheLends.{lends_value, lends_hit, lends_found, ends_looked_up, lends_filled};
+    ghost use Rattle.pu_map.specs.declared.cache.TryInsertError.TheVariants.{Refused};
+    ghost use Rattle.pu_map.specs.CacheLends.{lends_value, lends_hit, lends_found, ends_looked_up, lends_filled, lends_got};
 
     /// A cache without keys, of the next power of two of `max(n, 16)` slots. It fails only for want of memory.
     pub fn new(alloc: Global, n: usize) -> Result<FastFixedCache<K, V>>
@@ -244,6 +254,112 @@ impl<K: Hash + Eq, V> FastFixedCache<K, V> {
         let place = self.place_to_fill(&key);
         self.fill(place, key, value);
         self.value_mut(place)
+    }
+
+    /// The value of a key, for writing, whose slot is hit. Where neither of its slots holds the key, a copy of it is put in, with
+    /// what the function answers for the copy. Only then is the function called. It fails only for want of memory for the copy,
+    /// and the cache is then as before.
+    pub fn get_or_insert_with<F: FnOnce(&K) -> V>(&mut self, key: &K, f: F) -> Result<&mut V>
+    where
+        K: Clone + Drop,
+        V: Drop,
+        requires callable { place_of K.eq self.old.slots (key_hash (K.hash_input key.now)) key.now ≡ None → F.IsAlwaysCallable f }
+        ensures* writes_back { sem 𝓛 (lends_got K.row V.row self.entry (place_of K.eq self.old.slots (key_hash (K.hash_input key.now)) key.now) (place_to_fill K.eq self.old.slots (key_hash (K.hash_input key.now)) key.now) (AnswersCopy K.is_clone F.FnOnce f key.now) result) }
+        ensures value { IfOk result (λ x. UnwrapsOrElse (value_at self.old.slots (place_of K.eq self.old.slots (key_hash (K.hash_input key.now)) key.now)) (λ value. (copy : K) × AnswersCopy K.is_clone F.FnOnce f key.now copy value) x.now) }
+        ensures found { IsSome (place_of K.eq self.old.slots (key_hash (K.hash_input key.now)) key.now) → IsOk result }
+        ensures memory { OnErr result (result ≡ Err refusal.OutOfMemory) }
+    {
+        let place = self.place_with(key, f)?;
+        Ok(self.value_mut(place))
+    }
+
+    // The place of a key, which was hit, or filled where the cache lacked the key.
+    fn place_with<F: FnOnce(&K) -> V>(
+        &mut self,
+        key: &K,
+        f: F,
+    ) -> std::result::Result<usize, AllocError>
+    where
+        K: Clone + Drop,
+        V: Drop,
+        requires callable { place_of K.eq self.old.slots (key_hash (K.hash_input key.now)) key.now ≡ None → F.IsAlwaysCallable f }
+        ensures hit { IfSome (place_of K.eq self.old.slots (key_hash (K.hash_input key.now)) key.now) (λ i. (result ≡ Ok i) × (self.new ≡ touched self.old i)) }
+        ensures filled { IfOk result (λ i. place_of K.eq self.old.slots (key_hash (K.hash_input key.now)) key.now ≡ None → (i ≡ place_to_fill K.eq self.old.slots (key_hash (K.hash_input key.now)) key.now) × ((copy : K) × (value : V) × AnswersCopy K.is_clone F.FnOnce f key.now copy value × (self.new ≡ filled self.old i copy value))) }
+        ensures held { IfOk result (λ i. IsSome (slot_at self.new.slots i)) }
+        ensures unchanged { OnErr result (self.new ≡ self.old) }
+    {
+        match self.place_of(key) {
+            Some(place) => {
+                self.touch(place);
+                Ok(place)
+            }
+            None => {
+                let place = self.place_to_fill(key);
+                let copy = key.clone()?;
+                let value = f(&copy);
+                self.fill(place, copy, value);
+                Ok(place)
+            }
+        }
+    }
+
+    /// The same with a function that may fail. Its error is handed on, and the cache is then as before.
+    pub fn try_get_or_insert_with<E, F: FnOnce(&K) -> std::result::Result<V, E>>(
+        &mut self,
+        key: &K,
+        f: F,
+    ) -> std::result::Result<&mut V, TryInsertError<E>>
+    where
+        K: Clone + Drop,
+        V: Drop,
+        requires callable { place_of K.eq self.old.slots (key_hash (K.hash_input key.now)) key.now ≡ None → F.IsAlwaysCallable f }
+        ensures* writes_back { sem 𝓛 (lends_got K.row V.row self.entry (place_of K.eq self.old.slots (key_hash (K.hash_input key.now)) key.now) (place_to_fill K.eq self.old.slots (key_hash (K.hash_input key.now)) key.now) (λ copy value. AnswersCopy K.is_clone F.FnOnce f key.now copy (Ok value)) result) }
+        ensures value { IfOk result (λ x. UnwrapsOrElse (value_at self.old.slots (place_of K.eq self.old.slots (key_hash (K.hash_input key.now)) key.now)) (λ value. (copy : K) × AnswersCopy K.is_clone F.FnOnce f key.now copy (Ok value)) x.now) }
+        ensures refused { (e : E) → result ≡ Err (Refused e) → (copy : K) × AnswersCopy K.is_clone F.FnOnce f key.now copy (Err e) }
+        ensures found { IsSome (place_of K.eq self.old.slots (key_hash (K.hash_input key.now)) key.now) → IsOk result }
+    {
+        match self.try_place_with(key, f) {
+            Ok(place) => Ok(self.value_mut(place)),
+            Err(error) => Err(error),
+        }
+    }
+
+    // The same as `place_with`, with a function that may fail.
+    fn try_place_with<E, F: FnOnce(&K) -> std::result::Result<V, E>>(
+        &mut self,
+        key: &K,
+        f: F,
+    ) -> std::result::Result<usize, TryInsertError<E>>
+    where
+        K: Clone + Drop,
+        V: Drop,
+        requires callable { place_of K.eq self.old.slots (key_hash (K.hash_input key.now)) key.now ≡ None → F.IsAlwaysCallable f }
+        ensures hit { IfSome (place_of K.eq self.old.slots (key_hash (K.hash_input key.now)) key.now) (λ i. (result ≡ Ok i) × (self.new ≡ touched self.old i)) }
+        ensures filled { IfOk result (λ i. place_of K.eq self.old.slots (key_hash (K.hash_input key.now)) key.now ≡ None → (i ≡ place_to_fill K.eq self.old.slots (key_hash (K.hash_input key.now)) key.now) × ((copy : K) × (value : V) × AnswersCopy K.is_clone F.FnOnce f key.now copy (Ok value) × (self.new ≡ filled self.old i copy value))) }
+        ensures held { IfOk result (λ i. IsSome (slot_at self.new.slots i)) }
+        ensures refused { (e : E) → result ≡ Err (Refused e) → (copy : K) × AnswersCopy K.is_clone F.FnOnce f key.now copy (Err e) }
+        ensures unchanged { OnErr result (self.new ≡ self.old) }
+    {
+        match self.place_of(key) {
+            Some(place) => {
+                self.touch(place);
+                Ok(place)
+            }
+            None => {
+                let place = self.place_to_fill(key);
+                let copy = match key.clone() {
+                    Ok(copy) => copy,
+                    Err(_) => return Err(TryInsertError::OutOfMemory),
+                };
+                match f(&copy) {
+                    Ok(value) => {
+                        self.fill(place, copy, value);
+                        Ok(place)
+                    }
+                    Err(error) => Err(TryInsertError::Refused(error)),
+                }
+            }
+        }
     }
 
     fn place_of(&self, key: &K) -> Option<usize>

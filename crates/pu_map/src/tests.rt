@@ -1,8 +1,8 @@
 //! The vectors of the maps, the cache and the sketch, and each generic call at one type.
 use crate::bytes_idx_map::Entry;
 use crate::{
-    BytesIndexMap, CardinalitySketch, FastFixedCache, InitHashMaps, PartitionedHashMap, PlHashMap,
-    PlHashSet, PlIndexMap, PlIndexSet,
+    BytesIndexMap, CardinalitySketch, FastCachedFunc, FastFixedCache, InitHashMaps,
+    PartitionedHashMap, PlHashMap, PlHashSet, PlIndexMap, PlIndexSet, TryInsertError,
 };
 use std::alloc::Global;
 use std::marker::{Send, Sync};
@@ -147,6 +147,54 @@ fn a_cloned_cache_finds_the_same(rt: HostRuntime) -> Result<(), Fail> {
     remember(&mut cache, 5, 1);
     let mut copy = cache.try_clone(rt.alloc())?;
     assert_eq!(rt; remembered(&mut copy, 5), Some(1));
+    Ok(())
+}
+
+fn doubled(cache: &mut FastFixedCache<u32, u32>, key: u32) -> Option<u32> {
+    match cache.get_or_insert_with(&key, |k| k.wrapping_mul(2)) {
+        Ok(value) => Some(*value),
+        Err(_error) => None,
+    }
+}
+
+fn small(cache: &mut FastFixedCache<u32, u32>, key: u32) -> Result<u32, TryInsertError<char>> {
+    match cache.try_get_or_insert_with(&key, |k| if *k < 10 { Ok(*k) } else { Err('l') }) {
+        Ok(value) => Ok(*value),
+        Err(error) => Err(error),
+    }
+}
+
+#[test]
+fn a_cache_that_makes_what_it_lacks(rt: HostRuntime) -> Result<(), Fail> {
+    let mut cache = FastFixedCache::<u32, u32>::new(rt.alloc(), 0)?;
+    remember(&mut cache, 5, 1);
+    assert_eq!(rt; doubled(&mut cache, 5), Some(1));
+    assert_eq!(rt; doubled(&mut cache, 6), Some(12));
+    assert_eq!(rt; remembered(&mut cache, 6), Some(12));
+    assert_eq!(rt; small(&mut cache, 6), Ok(12));
+    assert_eq!(rt; small(&mut cache, 7), Ok(7));
+    assert_eq!(rt; small(&mut cache, 11), Err(TryInsertError::Refused('l')));
+    assert_eq!(rt; remembered(&mut cache, 11), None);
+    Ok(())
+}
+
+fn answered<F: FnMut(u32) -> u32>(
+    func: &mut FastCachedFunc<u32, u32, F>,
+    x: u32,
+    use_cache: bool,
+) -> Option<u32>
+    requires { F.IsAlwaysCallable func.old.func }
+    ensures { F.IsAlwaysCallable func.new.func }
+{
+    func.eval(x, use_cache).ok()
+}
+
+#[test]
+fn a_cached_function_answers_as_the_function(rt: HostRuntime) -> Result<(), Fail> {
+    let mut square = FastCachedFunc::new(rt.alloc(), |x: u32| x.wrapping_mul(x), 0)?;
+    assert_eq!(rt; answered(&mut square, 5, true), Some(25));
+    assert_eq!(rt; answered(&mut square, 5, true), Some(25));
+    assert_eq!(rt; answered(&mut square, 6, false), Some(36));
     Ok(())
 }
 

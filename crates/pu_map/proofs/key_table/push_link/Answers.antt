@@ -1,8 +1,8 @@
-use Rattle.std.proofs.Common.{◌≡◌, ℕ, ◌+◌, List, [], ◌∷◌, ◌++◌, length, take, drop, map, subst, sym, ap, ◌∙◌, arith, rules}
+use Rattle.std.proofs.Common.{◌≡◌, ℕ, ◌+◌, [], ◌∷◌, ◌++◌, length, take, drop, map, subst, sym, ap, ◌∙◌, rules}
 use Rattle.pu_map.specs.declared.key_table.Link.{Link}
 use Rattle.pu_map.specs.Chains.{bucket_of, IsChained}
-use Rattle.pu_map.specs.Links.{hashes, nexts, stored, keys_of, IsSound}
-use Rattle.pu_map.proofs.LinkLemmas.{new_link, IsChained-pushed, IsSound-pushed, keys_of-pushed, take-append_all}
+use Rattle.pu_map.specs.Links.{hashes, nexts, stored}
+use Rattle.pu_map.proofs.LinkLemmas.{IsChained-pushed, IsSound-pushed, keys_of-pushed, take-append_all}
 use Rattle.pu_map.proofs.key_table.push_link.Goals as goal
 
 pub attach-requires-clause-chained : goal.attach-requires-clause-chained

@@ -1,4 +1,4 @@
-use Rattle.std.proofs.Common.{◌≡◌, ℕ, length, replicate, refl, ◌∙◌}
+use Rattle.std.proofs.Common.{ℕ, replicate, refl, ◌∙◌}
 use Rattle.std.proofs.lemmas.List.{length-replicate}
 use Rattle.pu_map.proofs.SketchLemmas.{fold-both, combined-zeros}
 use Rattle.pu_map.proofs.sketch.combining_inserts_both.Goals as goal

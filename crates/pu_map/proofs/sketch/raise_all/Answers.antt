@@ -1,4 +1,4 @@
-use Rattle.std.proofs.Common.{◌≡◌, length, sym, ◌∙◌, arith}
+use Rattle.std.proofs.Common.{sym, ◌∙◌, arith}
 use Rattle.std.proofs.lemmas.List.{ext_get_or}
 use Rattle.pu_map.specs.Sketch.{combined}
 use Rattle.pu_map.proofs.SketchLemmas.{length-combined, get_or-combined}

@@ -1,4 +1,4 @@
-use Rattle.std.proofs.Common.{◌≡◌, ℕ, ◌<◌, ◌≤◌, max, get_or, length}
+use Rattle.std.proofs.Common.{◌≡◌, ℕ, ◌<◌, ◌≤◌, max, get_or}
 use Rattle.pu_map.proofs.sketch.raise_all.Given as goal
 
 -- the registers before `i` are maxima, and the others as they were

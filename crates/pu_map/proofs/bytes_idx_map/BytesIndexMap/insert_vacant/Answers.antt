@@ -1,4 +1,4 @@
-use Rattle.std.proofs.Common.{◌≡◌, List, [], ◌∷◌, ◌++◌, Some, slice_get, length, set, refl, rules, sym, ap, ◌∙◌}
+use Rattle.std.proofs.Common.{◌≡◌, [], ◌∷◌, ◌++◌, Some, slice_get, length, set, refl, rules, sym, ap, ◌∙◌}
 use Rattle.pu_map.proofs.LinkLemmas.{set_last, slice_get_last}
 use Rattle.pu_map.proofs.bytes_idx_map.BytesIndexMap.insert_vacant.Goals as goal
 

@@ -1,6 +1,5 @@
-use Rattle.std.proofs.Common.{◌≡◌, ◌<◌, length, Some, refl, sym, ap, ◌∙◌}
+use Rattle.std.proofs.Common.{◌≡◌, Some, refl, sym, ap, ◌∙◌}
 use Rattle.std.specs.Option.{option_map}
-use Rattle.pu_map.specs.declared.cache.CacheSlot.{CacheSlot}
 use Rattle.pu_map.specs.Cache.{CacheState, slot_at, key_hash, place_to_fill, counter_after, with_value, filled}
 use Rattle.pu_map.proofs.CacheLemmas.{value-refilled, slot_at-set}
 use Rattle.pu_map.proofs.cache.FastFixedCache.insert.Goals as goal

@@ -1,6 +1,6 @@
-use Rattle.std.proofs.Common.{◌≡◌, ◌<◌, Some, length, map, slice_get, take, drop, sym, ap, ◌∙◌, arith}
+use Rattle.std.proofs.Common.{◌<◌, Some, length, take, drop, sym, ap, ◌∙◌, arith}
 use Rattle.std.proofs.lemmas.List.{length-map}
-use Rattle.pu_map.specs.Links.{stored, key_of, keys_of}
+use Rattle.pu_map.specs.Links.{stored, key_of}
 use Rattle.pu_map.proofs.LinkLemmas.{stored_at, key_at}
 use Rattle.pu_map.proofs.key_table.KeyTable.key.Goals as goal
 

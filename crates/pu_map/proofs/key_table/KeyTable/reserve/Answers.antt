@@ -1,6 +1,6 @@
-use Rattle.std.proofs.Common.{◌≡◌, List, ◌++◌, length, take, drop, map, subst, sym, ap, ◌∙◌, arith, rules}
+use Rattle.std.proofs.Common.{◌≡◌, ◌++◌, length, take, drop, map, subst, ap, ◌∙◌, rules}
 use Rattle.pu_map.specs.Chains.{IsChained, bucket_of}
-use Rattle.pu_map.specs.Links.{hashes, nexts, stored, keys_of}
+use Rattle.pu_map.specs.Links.{hashes, nexts, stored}
 use Rattle.pu_map.proofs.LinkLemmas.{IsSound-chained, keys_of-stored, take-append_all}
 use Rattle.pu_map.proofs.key_table.KeyTable.reserve.Goals as goal
 

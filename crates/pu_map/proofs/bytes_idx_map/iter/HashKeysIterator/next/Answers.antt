@@ -1,4 +1,4 @@
-use Rattle.std.proofs.Common.{ap, sym, ◌∙◌, ◌∷◌, ◌+◌, drop, arith}
+use Rattle.std.proofs.Common.{ap, ◌∙◌, ◌∷◌, ◌+◌, drop}
 use Rattle.std.proofs.lemmas.List.{drop_more}
 use Rattle.std.proofs.lemmas.Option.{slice_get_within, get_or_from_slice_get}
 use Rattle.pu_map.specs.Keys.{Key}
