@@ -1,2 +1,4 @@
-pub mod Parts
 pub mod Broken
+pub mod Columns
+pub mod Exact
+pub mod Parts

@@ -1,6 +1,6 @@
 -- What holds of a part of an operand holds of a part of the expression.
-use Rattle.std.proofs.Common.{◌≡◌, ℕ, List, [], ◌∷◌, ◌++◌, Bool, true, false, refl, ◌∙◌}
-use Rattle.std.specs.Prelude.{◌||◌, Contains}
+use Rattle.std.proofs.Common.{◌≡◌, List, [], ◌∷◌, ◌++◌, Bool, true, ◌∙◌}
+use Rattle.std.specs.Prelude.{Contains}
 use Rattle.std.specs.List.{list_any}
 use Rattle.std.proofs.lemmas.Bool.{or_left, or_right}
 use Rattle.std.proofs.lemmas.List.Folds.{list_any-append}
@@ -25,10 +25,10 @@ pub record AreAmong (us ts : List Tree) : Type 0 where
 among-left : (us vs : List Tree) → AreAmong us (us ++ vs)
 among-left us vs = record { tests = λ f h. list_any-append f us vs ∙ or_left (list_any f us) (list_any f vs) h; parts = λ x h. Contains-append_left us vs x h }
 
-among-right : (us vs : List Tree) → AreAmong vs (us ++ vs)
+pub among-right : (us vs : List Tree) → AreAmong vs (us ++ vs)
 among-right us vs = record { tests = λ f h. list_any-append f us vs ∙ or_right (list_any f us) (list_any f vs) h; parts = λ x h. Contains-append_right us vs x h }
 
-among-then : (us vs ts : List Tree) → AreAmong us vs → AreAmong vs ts → AreAmong us ts
+pub among-then : (us vs ts : List Tree) → AreAmong us vs → AreAmong vs ts → AreAmong us ts
 among-then us vs ts a b = record { tests = λ f h. b.tests f (a.tests f h); parts = λ x h. b.parts x (a.parts x h) }
 
 -- the first, the second and the third of what stands below an expression

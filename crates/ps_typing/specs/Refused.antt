@@ -1,5 +1,5 @@
 -- The errors by which typing refuses an expression.
-use Rattle.std.specs.Prelude.{◌≡◌, ℕ, List, IsFalse, IsTrue, Contains, ⊤}
+use Rattle.std.specs.Prelude.{◌≡◌, List, IsFalse, IsTrue, Contains, ⊤}
 use Rattle.std.specs.List.{list_any}
 use Rattle.pu_index.specs.declared.arena.Node.{Node}
 use Rattle.ps_frame.specs.Frames.{has_name}

@@ -1,5 +1,5 @@
 // The kind of an expression over a schema.
-ghost use Rattle.std.specs.Prelude.{◌≡◌, ◌≤◌, ◌+◌, ◌&&◌, IfErr, IfOk, IsTrue, Some};
+ghost use Rattle.std.specs.Prelude.{◌≡◌, ◌≢◌, ◌<◌, ◌≤◌, ◌+◌, ◌&&◌, IfErr, IfOk, IsTrue, None, Some};
 ghost use Rattle.ps_frame.specs.Trees.{AreComplete, IsExpression, tree_at, tree_size, trees_of, trees_size};
 ghost use Rattle.ps_frame.specs.Typing.{are_scalar, have_kinds, is_scalar, kind_over};
 ghost use Rattle.ps_frame.specs.Values.{same_kind};
@@ -7,17 +7,60 @@ ghost use Rattle.ps_frame.specs.declared.value.DataType.TheVariants as kind;
 ghost use Rattle.ps_typing.specs.Refused.{IsTypingError, IsTypingErrorOfAny};
 
 use crate::rules::{
-    aggregate_kind, aggregated, binary_kind, cast_kind, column_kind, fits_keys, function_kind,
+    aggregate_kind, aggregated, binary_kind, cast_kind, column_kind, function_kind, have_keys,
     is_number, literal_kind,
 };
 use ps_frame::expr::{AExpr, entry};
+use ps_frame::laws::kinds_are_exact;
 use ps_frame::refusal::{PolarsError, PolarsResult};
 use ps_frame::schema::Schema;
 use ps_frame::value::DataType;
 use pu_index::{Arena, Node};
 use pu_order::Steps;
 use std::alloc::Global;
-use std::sync::ledger::Ledger;
+use std::marker::Brand;
+use std::sync::ledger::{Blank, Ledger};
+
+/// The kind of an expression over a schema.
+///
+/// `at` is the node that an error names. Refused where some part of the expression reads a column that the schema
+/// lacks, breaks a typing rule, or is left out; any one of these may be answered. Else it fails only for want of
+/// memory. So it gives a kind exactly where there is one, but for want of memory.
+pub fn expr_kind(
+    alloc: Global,
+    at: Node,
+    expr: Node,
+    arena: &Arena<AExpr>,
+    schema: &Schema,
+) -> PolarsResult<DataType>
+    requires { IsExpression arena.now expr }
+    ensures kind { IfOk result (λ k. kind_over schema.now (tree_at arena.now expr) ≡ Some k) }
+    ensures refused { IfErr result (IsTypingError at schema.now (tree_at arena.now expr)) }
+    ensures exact { IfErr result (λ e. e ≢ PolarsError.OutOfMemory → kind_over schema.now (tree_at arena.now expr) ≡ None) }
+{
+    kinds_are_exact();
+    uncounted_kind::<Brand>(alloc, at, expr, arena, schema, Blank::new(1))
+}
+
+fn uncounted_kind<L: Ledger>(
+    alloc: Global,
+    at: Node,
+    expr: Node,
+    arena: &Arena<AExpr>,
+    schema: &Schema,
+    blank: Blank,
+) -> PolarsResult<DataType>
+    requires expression { IsExpression arena.now expr }
+    requires name { blank.name ≡ L.name }
+    requires parts { blank.parts ≡ L.parts }
+    requires some { 0 < L.parts }
+    ensures kind { IfOk result (λ k. kind_over schema.now (tree_at arena.now expr) ≡ Some k) }
+    ensures refused { IfErr result (IsTypingError at schema.now (tree_at arena.now expr)) }
+{
+    let mut steps = Steps::<L>::new(blank);
+    let typed = type_expr(alloc, at, expr, arena, schema, &mut steps)?;
+    Ok(typed.dtype)
+}
 
 /// The kind of an expression, and whether it gives one cell, whatever the table.
 #[derive(Clone, Copy, Debug, PartialEq, Eq)]
@@ -89,8 +132,7 @@ pub fn type_expr<L: Ledger>(
         } => {
             let sorted = type_expr(alloc, at, *expr, arena, schema, steps)?;
             let keys = type_keys(alloc, at, by, arena, schema, steps)?;
-            if by.is_empty() || !fits_keys(descending, by.len()) || !fits_keys(nulls_last, by.len())
-            {
+            if !have_keys(by, descending, nulls_last) {
                 return Err(PolarsError::SchemaMismatch { node: at });
             }
             Ok(Typed {
@@ -213,7 +255,7 @@ fn type_keys<L: Ledger>(
     let mut all_scalar = true;
     for key in keys {
         let key = type_expr(alloc, at, *key, arena, schema, steps)?;
-        all_scalar = all_scalar && key.is_scalar;
+        all_scalar &= key.is_scalar;
     }
     Ok(all_scalar)
 }

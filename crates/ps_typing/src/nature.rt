@@ -21,7 +21,8 @@ pub fn is_scalar(expr: Node, arena: &Arena<AExpr>) -> bool
     match entry(expr, arena) {
         AExpr::Literal(_) | AExpr::Agg(_) | AExpr::Len => true,
         AExpr::Column(_) | AExpr::Filter { .. } | AExpr::Slice { .. } | AExpr::LeftOut(_) => false,
-        AExpr::BinaryExpr { left, op: _, right } => is_scalar(*left, arena) && is_scalar(*right, arena),
+        AExpr::BinaryExpr { left, op: _, right } => is_scalar(*left, arena)
+            && is_scalar(*right, arena),
         AExpr::Cast { expr, .. } | AExpr::Sort { expr, .. } => is_scalar(*expr, arena),
         AExpr::SortBy { expr, by, .. } => is_scalar(*expr, arena) && are_scalar(by, arena),
         AExpr::Gather { returns_scalar, .. } => *returns_scalar,
@@ -61,7 +62,8 @@ pub fn is_independent(expr: Node, arena: &Arena<AExpr>) -> bool
             is_independent(*left, arena) && is_independent(*right, arena)
         }
         AExpr::Cast { expr, .. } | AExpr::Sort { expr, .. } => is_independent(*expr, arena),
-        AExpr::SortBy { expr, by, .. } => is_independent(*expr, arena) && are_independent(by, arena),
+        AExpr::SortBy { expr, by, .. } => is_independent(*expr, arena)
+            && are_independent(by, arena),
         AExpr::Gather { expr, idx, .. } => {
             is_independent(*expr, arena) && is_independent(*idx, arena)
         }

@@ -1,5 +1,5 @@
 // The typing rules of single expressions, over the kinds of their operands.
-ghost use Rattle.std.specs.Prelude.{◌≡◌, IfErr, IfOk, Some};
+ghost use Rattle.std.specs.Prelude.{◌≡◌, ◌==◌, ◌&&◌, ◌⊎◌, IfErr, IfOk, Some, length, not};
 ghost use Rattle.ps_frame.specs.Tables.{field_kind};
 ghost use Rattle.ps_frame.specs.Trees.{Tree};
 ghost use Rattle.ps_frame.specs.Typing.{aggregate_kind as kind_of_aggregate, binary_kind as kind_of_binary, cast_kind as kind_of_cast, fits_keys as fits_number, function_kind as kind_of_function, is_number as is_number_kind, literal_kind as kind_of_literal};
@@ -24,13 +24,20 @@ pub(crate) fn column_kind(
     ensures kind { IfOk result (λ k. field_kind name.now schema.now ≡ Some k) }
     ensures refused { IfErr result (IsTypingError at schema.now (Tree.column name.now)) }
 {
-    let Some(place) = schema.index_of(name.as_str()) else {
-        return Err(match name.try_clone(alloc) {
-            Ok(name) => PolarsError::ColumnNotFound { node: at, name },
-            Err(_) => PolarsError::OutOfMemory,
-        });
-    };
-    Ok(schema.kind(place))
+    match schema.index_of(name.as_str()) {
+        Some(place) => Ok(schema.kind(place)),
+        None => Err(column_not_found(alloc, at, name)),
+    }
+}
+
+// The error of a column that isn't there, or of want of memory for its name.
+fn column_not_found(alloc: Global, at: Node, name: &PlSmallStr) -> PolarsError
+    ensures { (result ≡ PolarsError.ColumnNotFound at name.now) ⊎ (result ≡ PolarsError.OutOfMemory) }
+{
+    match name.try_clone(alloc) {
+        Ok(name) => PolarsError::ColumnNotFound { node: at, name },
+        Err(_) => PolarsError::OutOfMemory,
+    }
 }
 
 pub(crate) fn literal_kind(literal: &LiteralValue) -> DataType
@@ -128,8 +135,15 @@ pub(crate) fn function_kind(function: FunctionExpr, dtype: DataType) -> Option<D
 }
 
 // One flag, or one for each key.
-pub(crate) fn fits_keys(flags: &[bool], keys: usize) -> bool
+fn fits_keys(flags: &[bool], keys: usize) -> bool
     ensures { result ≡ fits_number flags.now keys }
 {
     flags.len() == 1 || flags.len() == keys
+}
+
+// At least one key, with flags for one or for each.
+pub(crate) fn have_keys(keys: &[Node], descending: &[bool], nulls_last: &[bool]) -> bool
+    ensures { result ≡ (not (length keys.now == 0) && (fits_number descending.now (length keys.now) && fits_number nulls_last.now (length keys.now))) }
+{
+    !keys.is_empty() && fits_keys(descending, keys.len()) && fits_keys(nulls_last, keys.len())
 }
