@@ -1,0 +1,4 @@
+pub mod Broken
+pub mod Columns
+pub mod Exact
+pub mod Parts
