@@ -1,0 +1,4 @@
+use Rattle.ps_eval.proofs.elementwise.binary.Goals as goal
+
+pub returns : goal.returns
+returns c = ?
