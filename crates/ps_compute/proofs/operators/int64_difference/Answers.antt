@@ -1,0 +1,10 @@
+use Rattle.std.proofs.Common.{rules, FitsSigned}
+use Rattle.std.specs.Int.{w64}
+use Rattle.std.proofs.lemmas.Int.{wrapping_sub_is}
+use Rattle.ps_compute.proofs.operators.int64_difference.Goals as goal
+
+pub returns : goal.returns
+returns c =
+    let a : FitsSigned w64 c.args.a = search rules in
+    let b : FitsSigned w64 c.args.b = search rules in
+    wrapping_sub_is w64 c.args.a c.args.b a b
