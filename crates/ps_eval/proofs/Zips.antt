@@ -1,8 +1,8 @@
 -- What is held of operands side by side is held of the definition's columns side by side.
-use Rattle.std.proofs.Common.{◌≡◌, ℕ, zero, suc, ◌<◌, List, [], ◌∷◌, ◌++◌, length, get_or, Bool, true, false, refl, subst, sym, ◌∙◌, ap, inl, inr, arith}
+use Rattle.std.proofs.Common.{◌≡◌, ℕ, zero, suc, ◌<◌, List, [], ◌∷◌, ◌++◌, length, get_or, Bool, true, false, refl, subst, sym, ◌∙◌, ap, inl, inr, arith, add-one, ◌+◌}
 use Rattle.std.specs.Prelude.{map, flat_map, filter_map, not, ◌||◌, is_some, Option, Some, None, if◌then◌else◌}
 use Rattle.std.specs.List.{AllZip, list_any}
-use Rattle.std.proofs.lemmas.List.{length-map}
+use Rattle.std.proofs.lemmas.List.{length-map, map-append}
 use Rattle.ps_eval.specs.Held.{IsOneOf, Keeps, cell_at, cells_of, ending_of, first_bad, held_cell, held_values}
 use Rattle.ps_eval.specs.Lengths.{ending_fault, extent_held, first_ended}
 use Rattle.ps_eval.specs.Rows.{bad_or, cell_for, cell_from, cells_from, repeats, row_of}
@@ -169,3 +169,22 @@ cellwise-keeps f ps q cells broken node cs k =
           ∙ sym (ap (map held_cell) (map-map (cell_of_row f) (λ i. map (cell_in_row false i) cs) (below n)) ∙ map-map held_cell (λ i. cell_of_row f (map (cell_in_row false i) cs)) (below n));
       ended = subst (IsOneOf (aligned false node cs).broken) (sym broken) (early node (map ending_of ps) cs es);
     }
+
+-- one more row
+pub cells-more : (f : List Value → Held) (ps : List Part) (i : ℕ) (row : List Held) (cell : Held) (old new : List Held) → old ≡ cells_from f ps i → row ≡ row_of ps i → cell ≡ cell_from f row → new ≡ old ++ cell ∷ []
+    → new ≡ cells_from f ps (i + 1)
+cells-more f ps i row cell old new before is made grown =
+    rw add-one (grown ∙ ap (λ hs. hs ++ cell ∷ []) before
+    ∙ ap (λ h. cells_from f ps i ++ h ∷ []) (made ∙ ap (cell_from f) is)
+    ∙ sym (map-append (λ j. cell_from f (row_of ps j)) (below i) (i ∷ [])))
+
+-- the cell of an operand that repeats as is told
+pub operand-cell : (p : Part) (i : ℕ) (r : Bool) (a : Held) → r ≡ repeats p → a ≡ cell_for (cells_of p.cells) r i → a ≡ cell_for (cells_of p.cells) (repeats p) i
+operand-cell p i r a e is = is ∙ ap (λ b. cell_for (cells_of p.cells) b i) e
+
+
+pub two_cells : (a x b y : Held) → a ≡ x → b ≡ y → (a ∷ b ∷ []) ≡ x ∷ y ∷ []
+two_cells a x b y e g = cc
+
+pub three_cells : (a x b y c z : Held) → a ≡ x → b ≡ y → c ≡ z → (a ∷ b ∷ c ∷ []) ≡ x ∷ y ∷ z ∷ []
+three_cells a x b y c z e g h = cc

@@ -1,3 +1,5 @@
 pub mod Lengths
 pub mod Held
 pub mod Rows
+pub mod Cellwise
+pub mod Wholes

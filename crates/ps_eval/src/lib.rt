@@ -5,3 +5,4 @@ pub mod elementwise;
 mod growing;
 pub mod lengths;
 pub mod part;
+pub mod whole;

@@ -1,7 +1,7 @@
 // The column of an expression while it is computed.
 ghost use Rattle.std.specs.Prelude.{◌≡◌, ◌<◌, ◌++◌, ◌∷◌, [], length, get_or, map, IfOk, OnOk, MatchResult, Some, None};
 ghost use Rattle.ps_eval.specs.Held.{cell_at, cells_of, ending_of, first_bad, first_fault, held_values, values_of};
-ghost use Rattle.ps_eval.specs.Rows.{seen as seen_cell};
+ghost use Rattle.ps_eval.specs.Rows.{repeats as repeats_in, seen as seen_cell};
 ghost use Rattle.ps_frame.specs.declared.value.Cell.TheVariants as held;
 
 use crate::lengths::Ending;
@@ -129,6 +129,13 @@ impl Part {
             fault: self.fault,
             len: self.cells.len(),
         }
+    }
+
+    /// Whether its only cell stands in each row.
+    pub fn repeats(&self) -> bool
+        ensures { result ≡ repeats_in self.now }
+    {
+        self.ending().repeats()
     }
 
     /// Its values where nothing is faulty, and else one of its faults.

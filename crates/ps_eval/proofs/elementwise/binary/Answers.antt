@@ -1,4 +1,0 @@
-use Rattle.ps_eval.proofs.elementwise.binary.Goals as goal
-
-pub returns : goal.returns
-returns c = ?
