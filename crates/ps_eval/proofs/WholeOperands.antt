@@ -1,10 +1,11 @@
 -- What is made of whole columns is held of what the definition makes of them.
 use Rattle.std.proofs.Common.{◌≡◌, ℕ, List, [], ◌∷◌, ◌++◌, Bool, true, false, refl, subst, sym, ◌∙◌, ap, inl, inr, append-nil}
-use Rattle.std.specs.Prelude.{map, flat_map, not, ◌||◌, is_some, Option, Some, None}
+use Rattle.std.specs.Prelude.{map, flat_map, not, ◌||◌, is_some, Option, Some, None, Result, Ok, Err}
 use Rattle.std.specs.List.{AllZip, list_any}
-use Rattle.ps_eval.specs.Held.{IsOneOf, Keeps, cells_of, first_bad, first_fault, held_cell, held_values, or_else}
+use Rattle.ps_eval.specs.Held.{IsOneOf, Keeps, Settles, cells_of, first_bad, first_fault, held_cell, held_values, or_else, values_of}
 use Rattle.ps_eval.specs.Wholes.{EndsOr, IsOfWhole, first_fault_of, values_in}
 use Rattle.ps_eval.specs.declared.part.Part.{Part}
+use Rattle.ps_eval.specs.declared.part.Values.{Values}
 use Rattle.ps_eval.proofs.Zips.{first-bad, head_fault, map-map, one_of-left, one_of-right, some-ended, values-held}
 use Rattle.ps_frame.specs.Causes.{Cause, Cell, Column, cell_causes, cell_values, column_causes, has_cause, is_empty, value, whole_column}
 use Rattle.ps_frame.specs.Eval.{from_whole}
@@ -74,11 +75,15 @@ pub of-values : (f : List (List Value) → Column) (ps : List Part) (q : Part) �
 of-values f ps q e kept = record { holds = rw e kept }
 
 -- one operand
-pub of_one-fault : (f : List (List Value) → Column) (p q : Part) (x : DataFault) → first_fault p ≡ Some x → cells_of q.cells ≡ [] → q.fault ≡ Some x → IsOfWhole f (p ∷ []) q
-of_one-fault f p q x e cells ended = of-fault f (p ∷ []) q x (rw e refl) cells ended
+pub settled-ok : (f : List (List Value) → Column) (p q : Part) (outcome : Result Values DataFault) (vs : Values) → Settles p outcome → outcome ≡ Ok vs → Keeps q (f (values_of vs ∷ [])) → IsOfWhole f (p ∷ []) q
+settled-ok f p q outcome vs settles is kept =
+    let s : Settles p (Ok vs) = subst (Settles p) is settles in
+    of-values f (p ∷ []) q (rw s.0 refl) (subst (λ ws. Keeps q (f (ws ∷ []))) s.1 kept)
 
-pub of_one-values : (f : List (List Value) → Column) (p q : Part) (vs : List Value) → first_fault p ≡ None → vs ≡ values_in p → Keeps q (f (vs ∷ [])) → IsOfWhole f (p ∷ []) q
-of_one-values f p q vs e is kept = of-values f (p ∷ []) q (rw e refl) (subst (λ ws. Keeps q (f (ws ∷ []))) is kept)
+pub settled-err : (f : List (List Value) → Column) (p q : Part) (outcome : Result Values DataFault) (x : DataFault) → Settles p outcome → outcome ≡ Err x → cells_of q.cells ≡ [] → q.fault ≡ Some x → IsOfWhole f (p ∷ []) q
+settled-err f p q outcome x settles is cells ended =
+    let s : Settles p (Err x) = subst (Settles p) is settles in
+    of-fault f (p ∷ []) q x (rw s refl) cells ended
 
 -- whole columns of values
 pub whole-kept : (q : Part) (vs : List Value) → cells_of q.cells ≡ map held.Val vs → q.fault ≡ None → Keeps q (whole_column vs)

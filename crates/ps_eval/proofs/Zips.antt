@@ -61,7 +61,7 @@ all_end [] (c ∷ cs) k = absurd k
 all_end (p ∷ ps) [] k = absurd k
 all_end (p ∷ ps) (c ∷ cs) k = (ends p c k.0, all_end ps cs k.1)
 
-some-ended : (causes : List Cause) (o : Option DataFault) → IsOneOf causes o → is_some o ≡ not (is_empty causes)
+pub some-ended : (causes : List Cause) (o : Option DataFault) → IsOneOf causes o → is_some o ≡ not (is_empty causes)
 some-ended causes None e = rw e refl
 some-ended causes (Some f) h = ap not (sym (not_empty causes f h))
 
@@ -188,3 +188,15 @@ two_cells a x b y e g = cc
 
 pub three_cells : (a x b y c z : Held) → a ≡ x → b ≡ y → c ≡ z → (a ∷ b ∷ c ∷ []) ≡ x ∷ y ∷ z ∷ []
 three_cells a x b y c z e g h = cc
+
+-- and there is such a fault exactly where the definition has the zip end early
+pub early-some : (es : List Ending) (cs : List Column) → AllZip Ends es cs → is_some (ending_fault es) ≡ ends_early false cs
+early-some es cs k =
+    let same = extents-end es cs k in
+    ap (λ (x : List Extent). is_some (if breaks_shape false x then Some fault.Shape else first_ended es)) same
+    ∙ go (breaks_shape false (extents cs)) (first_ended es) (first-ended es cs k)
+  where
+    go : (b : Bool) (o : Option DataFault) → EndedBy cs o → is_some (if b then Some fault.Shape else o) ≡ (list_any is_ended cs || b)
+    go true o h = sym (or-true (list_any is_ended cs))
+    go false None h = sym (or-nil (list_any is_ended cs) ∙ h)
+    go false (Some f) h = sym (or-nil (list_any is_ended cs) ∙ h.0)

@@ -1,5 +1,5 @@
 -- What the evaluation holds of a column: of the causes of a faulty cell the first, and of those that ended the column one.
-use Rattle.std.specs.Prelude.{◌≡◌, ◌⊎◌, ℕ, List, [], ◌∷◌, map, filter_map, flat_map, length, get_or, Bool, true, false, not, is_some, Option, Some, None, if◌then◌else◌}
+use Rattle.std.specs.Prelude.{◌≡◌, ◌⊎◌, ℕ, List, [], ◌∷◌, map, filter_map, flat_map, length, get_or, Bool, true, false, not, is_some, Option, Some, None, Result, Ok, Err, if◌then◌else◌}
 use Rattle.ps_eval.specs.declared.growing.Growing.{Growing}
 use Rattle.ps_eval.specs.declared.growing.Growing.TheVariants as growing
 use Rattle.ps_eval.specs.declared.lengths.Ending.{Ending}
@@ -77,3 +77,8 @@ IsOneOf causes (Some f) = IsFaultOf causes f
 pub record Keeps (p : Part) (c : Column) : Type 0 where
   pub cells : cells_of p.cells ≡ map held_cell c.cells
   pub ended : IsOneOf c.broken p.fault
+
+-- the values of a column without a fault, or one of its faults
+abbrev pub Settles : Part → Result Values DataFault → Type 0
+Settles p (Ok vs) = (first_fault p ≡ None) × (values_of vs ≡ held_values (cells_of p.cells))
+Settles p (Err f) = first_fault p ≡ Some f

@@ -2,6 +2,7 @@
 #![tactic(auto)]
 
 pub mod elementwise;
+pub mod filter;
 mod growing;
 pub mod lengths;
 pub mod part;

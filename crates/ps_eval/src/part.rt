@@ -1,7 +1,8 @@
 // The column of an expression while it is computed.
 ghost use Rattle.std.specs.Prelude.{◌≡◌, ◌<◌, ◌++◌, ◌∷◌, [], length, get_or, map, IfOk, OnOk, MatchResult, Some, None};
-ghost use Rattle.ps_eval.specs.Held.{cell_at, cells_of, ending_of, first_bad, first_fault, held_values, values_of};
+ghost use Rattle.ps_eval.specs.Held.{Keeps, Settles, cell_at, cells_of, ending_of, first_bad, first_fault, held_values, values_of};
 ghost use Rattle.ps_eval.specs.Rows.{repeats as repeats_in, seen as seen_cell};
+ghost use Rattle.ps_frame.specs.Causes.{whole_column};
 ghost use Rattle.ps_frame.specs.declared.value.Cell.TheVariants as held;
 
 use crate::lengths::Ending;
@@ -142,7 +143,7 @@ impl Part {
     ///
     /// The outer result fails only for want of memory.
     pub fn settled(self, alloc: Global) -> Result<Result<Values, DataFault>, AllocError>
-        ensures { IfOk result (λ outcome. MatchResult outcome (λ values. (first_fault self ≡ None) × (values_of values ≡ held_values (cells_of self.cells))) (λ fault. first_fault self ≡ Some fault)) }
+        ensures { IfOk result (Settles self) }
     {
         match self.fault {
             Some(fault) => Ok(Err(fault)),
@@ -191,8 +192,7 @@ fn values_among(alloc: Global, cells: Vec<Cell>) -> Result<Vec<Value>, AllocErro
 /// A column of these values, without a fault.
 pub fn whole_part(dtype: DataType, values: Vec<Value>) -> Part
     ensures dtype { result.dtype ≡ dtype }
-    ensures cells { cells_of result.cells ≡ map held.Val values.items }
-    ensures fault { result.fault ≡ None }
+    ensures kept { Keeps result (whole_column values.items) }
 {
     Part {
         dtype,

@@ -17,7 +17,8 @@ pub fn reversed_part(alloc: Global, input: Part) -> Result<Part, AllocError>
     ensures cells { IfOk result (λ part. IsOfWhole (λ vs. whole_column (reverse (operand 0 vs))) (input ∷ []) part) }
 {
     let dtype = input.dtype;
-    match input.settled(alloc)? {
+    let outcome = input.settled(alloc)?;
+    match outcome {
         Ok(values) => reversed_values(alloc, dtype, values),
         Err(fault) => Ok(ended_part(alloc, dtype, fault)),
     }
