@@ -1,4 +1,5 @@
 pub mod Agreement
+pub mod Evaluating
 pub mod KeptRows
 pub mod Parts
 pub mod WholeOperands

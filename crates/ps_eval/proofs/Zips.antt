@@ -3,6 +3,7 @@ use Rattle.std.proofs.Common.{◌≡◌, ℕ, zero, suc, ◌<◌, List, [], ◌�
 use Rattle.std.specs.Prelude.{map, flat_map, filter_map, not, ◌||◌, is_some, Option, Some, None, if◌then◌else◌}
 use Rattle.std.specs.List.{AllZip, list_any}
 use Rattle.std.proofs.lemmas.List.{length-map, map-append}
+use Rattle.ps_eval.specs.Cellwise.{IsCellwise}
 use Rattle.ps_eval.specs.Held.{IsOneOf, Keeps, cell_at, cells_of, ending_of, first_bad, held_cell, held_values}
 use Rattle.ps_eval.specs.Lengths.{ending_fault, extent_held, first_ended}
 use Rattle.ps_eval.specs.Rows.{bad_or, cell_for, cell_from, cells_from, repeats, row_of}
@@ -157,17 +158,16 @@ cell-from f row =
     ∙ sym (held-faulty_or (row_causes row) (f (cell_values row)))
 
 -- what an elementwise operator gives of what is held is held of what the definition gives
-pub cellwise-keeps : (f : List Value → Cell) (ps : List Part) (q : Part) → cells_of q.cells ≡ cells_from (λ vs. held_cell (f vs)) ps (zip_length false (map extent_held (map ending_of ps))) → q.fault ≡ ending_fault (map ending_of ps)
-    → (node : ℕ) (cs : List Column) → AllZip Keeps ps cs → Keeps q (cellwise node f cs)
-cellwise-keeps f ps q cells broken node cs k =
+pub cellwise-keeps : (g : List Value → Held) (f : List Value → Cell) → ((vs : List Value) → g vs ≡ held_cell (f vs)) → (ps : List Part) (q : Part) → IsCellwise g ps q → (node : ℕ) (cs : List Column) → AllZip Keeps ps cs → Keeps q (cellwise node f cs)
+cellwise-keeps g f same_cell ps q is node cs k =
     let es = all_end ps cs k in
     let same = extents-end (map ending_of ps) cs es in
     let n = zip_length false (extents cs) in
     record {
-      cells = cells ∙ ap (λ x. cells_from (λ vs. held_cell (f vs)) ps (zip_length false x)) same
-          ∙ map_same _ _ (λ i. ap (cell_from (λ vs. held_cell (f vs))) (row-held ps cs i k) ∙ cell-from f (map (cell_in_row false i) cs)) (below n)
+      cells = is.cells ∙ ap (λ x. cells_from g ps (zip_length false x)) same
+          ∙ map_same _ _ (λ i. ap (cell_from g) (row-held ps cs i k) ∙ ap (bad_or (first_bad (map held_cell (map (cell_in_row false i) cs)))) (same_cell (held_values (map held_cell (map (cell_in_row false i) cs)))) ∙ cell-from f (map (cell_in_row false i) cs)) (below n)
           ∙ sym (ap (map held_cell) (map-map (cell_of_row f) (λ i. map (cell_in_row false i) cs) (below n)) ∙ map-map held_cell (λ i. cell_of_row f (map (cell_in_row false i) cs)) (below n));
-      ended = subst (IsOneOf (aligned false node cs).broken) (sym broken) (early node (map ending_of ps) cs es);
+      ended = subst (IsOneOf (aligned false node cs).broken) (sym is.fault) (early node (map ending_of ps) cs es);
     }
 
 -- one more row

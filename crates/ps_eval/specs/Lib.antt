@@ -3,3 +3,4 @@ pub mod Held
 pub mod Rows
 pub mod Cellwise
 pub mod Wholes
+pub mod Evaluations

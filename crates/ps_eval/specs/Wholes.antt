@@ -4,6 +4,8 @@ use Rattle.ps_eval.specs.Held.{Keeps, cells_of, first_fault, held_values, or_els
 use Rattle.ps_eval.specs.declared.part.Part.{Part}
 use Rattle.ps_frame.specs.Causes.{Column}
 use Rattle.ps_frame.specs.Trees.{Aggregation}
+use Rattle.ps_frame.specs.declared.expr.FunctionExpr.{FunctionExpr}
+use Rattle.ps_frame.specs.declared.expr.FunctionExpr.TheVariants as fun
 use Rattle.ps_frame.specs.declared.expr.IRAggExpr.{IRAggExpr}
 use Rattle.ps_frame.specs.declared.expr.IRAggExpr.TheVariants as agg
 use Rattle.ps_frame.specs.declared.value.DataFault.{DataFault}
@@ -63,3 +65,10 @@ aggregated_kind Aggregation.min k = k
 aggregated_kind Aggregation.max k = k
 aggregated_kind Aggregation.first k = k
 aggregated_kind Aggregation.last k = k
+
+-- the kind of what a function gives of values of a kind
+abbrev pub called_kind : FunctionExpr → DataType → DataType
+called_kind fun.Not k = kind.Boolean
+called_kind fun.IsNull k = kind.Boolean
+called_kind fun.IsNotNull k = kind.Boolean
+called_kind fun.Reverse k = k

@@ -6,4 +6,5 @@ pub mod filter;
 mod growing;
 pub mod lengths;
 pub mod part;
+pub mod sources;
 pub mod whole;
