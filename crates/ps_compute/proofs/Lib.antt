@@ -1,2 +1,6 @@
+pub mod Aggregation
+pub mod Distinct
+pub mod KeyOrder
 pub mod Numbers
+pub mod Places
 pub mod Texts

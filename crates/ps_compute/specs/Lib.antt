@@ -1,1 +1,4 @@
 -- The definitions that this crate's contracts cite beside those of `ps_frame`.
+pub mod Nullable
+pub mod Rows
+pub mod Runs

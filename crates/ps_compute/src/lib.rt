@@ -1,5 +1,8 @@
 // The operators of expressions, on single values and on whole operands.
 #![tactic(auto)]
 
+pub mod aggregates;
 pub mod casts;
 pub mod operators;
+pub mod order;
+pub mod selection;

@@ -1,0 +1,11 @@
+use Rattle.std.proofs.Common.{◌≡◌, ◌≤◌, drop, length}
+use Rattle.std.specs.Option.{option_copied}
+use Rattle.ps_frame.specs.Aggregates.{least_value}
+use Rattle.ps_compute.specs.Nullable.{or_null}
+use Rattle.ps_compute.proofs.aggregates.least.Given as goal
+
+abbrev pub invariant-loop-from : goal.invariant-loop-from
+invariant-loop-from l = record { within : l.from ≤ length l.values; best : or_null (option_copied l.best) ≡ least_value (drop l.from l.values) }
+
+abbrev pub decreases-loop-from : goal.decreases-loop-from
+decreases-loop-from l = l.from
