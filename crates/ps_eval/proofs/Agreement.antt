@@ -1,13 +1,12 @@
 -- Lengths of operands, one more at a time, and which of them can't agree.
-use Rattle.std.proofs.Common.{◌≡◌, ℕ, zero, suc, ◌+◌, ◌<◌, min, List, [], ◌∷◌, ◌++◌, length, take, drop, get_or, Bool, true, false, eqb, refl, subst, sym, ◌∙◌, ap, arith, append-nil, eq-eqb, eqb→eq}
+use Rattle.std.proofs.Common.{◌≡◌, ℕ, ◌+◌, ◌<◌, min, List, [], ◌∷◌, ◌++◌, length, take, get_or, Bool, true, false, refl, sym, ◌∙◌, ap, append-nil, eq-eqb, eqb→eq}
 use Rattle.std.specs.Prelude.{map, filter, fold, not, ◌&&◌, ◌||◌, ◌==◌, nat_lt, nat_le, is_some, Option, Some, None, if◌then◌else◌}
 use Rattle.std.specs.List.{list_all, list_any}
 use Rattle.std.proofs.lemmas.List.{take_more}
 use Rattle.std.proofs.lemmas.Grind.{fold-append}
-use Rattle.ps_eval.specs.Lengths.{disagrees, ending_fault, extent_held, first_ended, first_open, lesser_of}
+use Rattle.ps_eval.specs.Lengths.{disagrees, extent_held, first_open, lesser_of}
 use Rattle.ps_eval.specs.declared.lengths.Ending.{Ending}
-use Rattle.ps_frame.specs.Zip.{Extent, all_same, breaks_shape, broadcasts, ended_lengths, least_or, lengths_where, open_lengths, outgrows, zip_length}
-use Rattle.ps_frame.specs.declared.value.DataFault.{DataFault}
+use Rattle.ps_frame.specs.Zip.{Extent, all_same, breaks_shape, broadcasts, ended_lengths, least_or, lengths_where, open_lengths, outgrows}
 
 -- the least of the numbers, if there is one
 abbrev pub least_of : List ℕ → Option ℕ

@@ -1,33 +1,27 @@
 -- What is computed for each kind of expression is held of its column, and has its kind.
 use Rattle.std.proofs.Common.{◌≡◌, ℕ, zero, suc, ◌+◌, ◌<◌, List, [], ◌∷◌, get_or, Bool, true, false, cond, refl, subst, sym, ◌∙◌, ap, arith}
-use Rattle.std.specs.Prelude.{map, slice_get, not, ◌&&◌, IsSome, IsTrue, IfOk, Option, Some, None, Result, Ok, Err, if◌then◌else◌, is_some}
-use Rattle.std.specs.List.{AllZip, position_from}
+use Rattle.std.specs.Prelude.{map, slice_get, not, IsSome, IfOk, Option, Some, None, Result, Ok, Err, if◌then◌else◌, is_some}
+use Rattle.std.specs.List.{position_from}
 use Rattle.std.specs.Str.{bytes_eq}
 use Rattle.std.specs.declared.alloc.AllocError.{AllocError}
 use Rattle.std.proofs.lemmas.Iterator.Adapters.{position_from-zero}
 use Rattle.std.proofs.lemmas.List.Quantifiers.{position-Some}
-use Rattle.ps_eval.specs.Cellwise.{IsCellwise, binary_row, cast_held, result_kind, ternary_row, unary_kind, unary_row}
-use Rattle.ps_eval.specs.Evaluations.{EvaluateAll, Evaluates, TakesKinds}
+use Rattle.ps_eval.specs.Cellwise.{IsCellwise, cast_held, unary_row}
+use Rattle.ps_eval.specs.Evaluations.{Evaluates}
 use Rattle.ps_eval.specs.Held.{Keeps, held_cell}
-use Rattle.ps_eval.specs.Rows.{IsKept}
-use Rattle.ps_eval.specs.Wholes.{IsOfWhole, aggregated_kind, aggregated_of, aggregation_of, called_kind, summed_kind}
-use Rattle.ps_eval.specs.declared.elementwise.Unary.{Unary}
 use Rattle.ps_eval.specs.declared.elementwise.Unary.TheVariants as unary
 use Rattle.ps_eval.specs.declared.part.Part.{Part}
 use Rattle.ps_eval.proofs.Zips.{cellwise-keeps}
-use Rattle.ps_frame.specs.Causes.{Cell, Column, faulty, value, whole_column}
-use Rattle.ps_frame.specs.Eval.{at, cellwise, eval, function_column, literal_value}
+use Rattle.ps_frame.specs.Causes.{Column, value, whole_column}
+use Rattle.ps_frame.specs.Eval.{at, function_column}
 use Rattle.ps_frame.specs.Frames.{kinds_of}
-use Rattle.ps_frame.specs.Operators.{binary_value, cast_cell, cast_value, choice_of, not_value}
-use Rattle.ps_frame.specs.Tables.{Fields, Frame, field_index, field_kind, table_column, values_at, values_at_some, whole}
-use Rattle.ps_frame.specs.Trees.{Tree, Trees, entry_tree, trees_of}
+use Rattle.ps_frame.specs.Operators.{cast_cell, not_value}
+use Rattle.ps_frame.specs.Tables.{Fields, Frame, field_index, field_kind, values_at, values_at_some}
+use Rattle.ps_frame.specs.Trees.{Tree}
 use Rattle.ps_frame.specs.Typed.{Typed}
-use Rattle.ps_frame.specs.Typing.{aggregate_kind, binary_kind, branch_kind, cast_kind, compares, function_kind, have_kinds, is_kind, kind_if, kind_over, literal_kind, sum_kind, takes_kinds}
-use Rattle.ps_frame.specs.Values.{is_null, same_kind}
+use Rattle.ps_frame.specs.Values.{is_null}
 use Rattle.ps_frame.specs.declared.expr.FunctionExpr.{FunctionExpr}
 use Rattle.ps_frame.specs.declared.expr.FunctionExpr.TheVariants as fun
-use Rattle.ps_frame.specs.declared.expr.LiteralValue.{LiteralValue}
-use Rattle.ps_frame.specs.declared.expr.Operator.{Operator}
 use Rattle.ps_frame.specs.declared.value.DataType.{DataType}
 use Rattle.ps_frame.specs.declared.value.DataType.TheVariants as kind
 use Rattle.ps_frame.specs.declared.value.Value.{Value}

@@ -1,22 +1,21 @@
 -- Rows that are read one by one, up to the first with a faulty cell.
-use Rattle.std.proofs.Common.{◌≡◌, ℕ, zero, suc, ◌+◌, ◌<◌, ◌≤◌, List, [], ◌∷◌, ◌++◌, length, get_or, drop, Bool, true, false, cond, refl, subst, sym, ◌∙◌, ap, inl, inr, arith, add-one, append-nil, append_assoc}
+use Rattle.std.proofs.Common.{◌≡◌, ℕ, zero, suc, ◌+◌, ◌<◌, ◌≤◌, List, [], ◌∷◌, ◌++◌, length, get_or, drop, Bool, true, false, refl, subst, sym, ◌∙◌, ap, inl, inr, arith, append-nil, append_assoc}
 use Rattle.std.proofs.Math.Numerals.{one-add}
 use native.Mathlib.Decide.{dec_lt}
 use mathlib.Core.Logic.{dite}
-use Rattle.std.specs.Prelude.{◌⊎◌, map, flat_map, filter, take_while, not, ◌&&◌, ◌||◌, is_some, Option, Some, None, if◌then◌else◌}
+use Rattle.std.specs.Prelude.{◌⊎◌, map, flat_map, filter, take_while, not, ◌||◌, is_some, Option, Some, None, if◌then◌else◌}
 use Rattle.std.specs.List.{AllZip, list_any}
 use Rattle.std.proofs.lemmas.List.{drop_more, drop_all, get_or_append_left, get_or_at, length-append}
-use Rattle.ps_eval.specs.Held.{IsOneOf, Keeps, cells_of, ending_of, first_bad, held_cell, held_values, or_else}
-use Rattle.ps_eval.specs.Lengths.{ending_fault, extent_held, first_ended}
+use Rattle.ps_eval.specs.Held.{IsOneOf, Keeps, ending_of, first_bad, held_cell, held_values, or_else}
+use Rattle.ps_eval.specs.Lengths.{ending_fault, extent_held}
 use Rattle.ps_eval.specs.Rows.{faulty_row, kept_of, kept_value, row_of, rows_of_parts, unless_bad, IsKept}
-use Rattle.ps_eval.specs.declared.lengths.Ending.{Ending}
 use Rattle.ps_eval.specs.declared.part.Part.{Part}
-use Rattle.ps_eval.proofs.Zips.{Ends, all_end, early-some, early, extents-end, first-bad, head_fault, map_same, map-map, one_of-left, one_of-right, row-held, values-held}
-use Rattle.ps_frame.specs.Causes.{Cause, Cell, Column, cell_causes, cell_values, column_causes, faulty, is_empty, value}
+use Rattle.ps_eval.proofs.Zips.{all_end, early-some, early, extents-end, first-bad, head_fault, map_same, map-map, one_of-left, one_of-right, row-held, values-held}
+use Rattle.ps_frame.specs.Causes.{Cause, Cell, Column, cell_causes, cell_values, column_causes, is_empty, value}
 use Rattle.ps_frame.specs.Eval.{at, kept}
 use Rattle.ps_frame.specs.Evaluated.{IsFaultOf}
 use Rattle.ps_frame.specs.Values.{is_true}
-use Rattle.ps_frame.specs.Zip.{Extent, aligned, below, broadcasts, cell_in_row, ends_early, extent_of, extents, is_faulty_row, row_causes, rows_before_fault, zip_causes, zip_length, zip_rows, zipped}
+use Rattle.ps_frame.specs.Zip.{below, broadcasts, cell_in_row, ends_early, extent_of, extents, is_faulty_row, row_causes, rows_before_fault, zip_causes, zip_length, zip_rows, zipped}
 use Rattle.ps_frame.specs.declared.value.Cell.{Cell as Held}
 use Rattle.ps_frame.specs.declared.value.Cell.TheVariants as held
 use Rattle.ps_frame.specs.declared.value.DataFault.{DataFault}
@@ -103,6 +102,7 @@ kept-rows (row ∷ rows) = go (row_causes row) refl (kept-rows rows)
         → map held.Val ((if b then v ∷ [] else []) ++ vs) ≡ map held_cell (map (λ row. value (at 0 row)) (if b then r ∷ filter (λ row. is_true (at 1 row)) rs else filter (λ row. is_true (at 1 row)) rs))
     one true v vs rs r ih e = rw e (ap (λ zs. held.Val v ∷ zs) ih)
     one false v vs rs r ih e = ih
+
     go : (xs : List Cause) → row_causes row ≡ xs → map held.Val (kept_of (map (map held_cell) rows)) ≡ kept_here (rows_before_fault rows)
         → map held.Val (unless_bad (first_bad (map held_cell row)) (kept_value (held_values (map held_cell row)) ++ kept_of (map (map held_cell) rows)))
         ≡ kept_here (map cell_values (take_while (λ r. not (is_faulty_row r)) (row ∷ rows)))
@@ -132,11 +132,12 @@ head-one_of (x ∷ xs) f e = let g : f ≡ x.fault = cc in inl g
 row-cause : (i : ℕ) (cs : List Column) (f : DataFault) → head_fault (row_causes (map (cell_in_row false i) cs)) ≡ Some f → IsFaultOf (flat_map column_causes cs) f
 row-cause i [] f e = cc
 row-cause i (c ∷ cs) f e =
-    elim (head-or (cell_causes (cell_in_row false i c)) (row_causes (map (cell_in_row false i) cs)) f e)
-    [ inl h ↦ one_of-left (column_causes c) (flat_map column_causes cs) f
-        (one_of-left (flat_map cell_causes c.cells) c.broken f
-        (cell-causes c.cells (if broadcasts false (extent_of c) then 0 else i) f (head-one_of (cell_causes (cell_in_row false i c)) f h)))
-    | inr h ↦ one_of-right (column_causes c) (flat_map column_causes cs) f (row-cause i cs f h) ]
+    elim (head-or (cell_causes (cell_in_row false i c)) (row_causes (map (cell_in_row false i) cs)) f e) [
+      | inl h ↦ one_of-left (column_causes c) (flat_map column_causes cs) f
+          (one_of-left (flat_map cell_causes c.cells) c.broken f
+          (cell-causes c.cells (if broadcasts false (extent_of c) then 0 else i) f (head-one_of (cell_causes (cell_in_row false i c)) f h)))
+      | inr h ↦ one_of-right (column_causes c) (flat_map column_causes cs) f (row-cause i cs f h)
+    ]
 
 -- the fault of the first faulty row, which there is where a row is faulty
 abbrev pub RowFault : List Column → List (List Cell) → Option DataFault → Type 0
@@ -150,6 +151,7 @@ row-more cs row rows cause o h = go (row_causes row) refl o h
     more : (o : Option DataFault) → is_faulty_row row ≡ false → RowFault cs rows o → RowFault cs (row ∷ rows) o
     more None e h = rw (e, h) refl
     more (Some f) e h = (rw (e, h.0) refl, h.1)
+
     go : (xs : List Cause) → row_causes row ≡ xs → (o : Option DataFault) → RowFault cs rows o → RowFault cs (row ∷ rows) (or_else (first_bad (map held_cell row)) o)
     go [] e o h = let bad = first-bad row ∙ ap head_fault e in rw bad (more o (ap (λ xs. not (is_empty xs)) e) h)
     go (x ∷ xs) e o h =
@@ -179,6 +181,7 @@ zip-ends node ps cs k =
     row : (r : Option DataFault) → RowFault cs (zip_rows false (zip_length false (extents cs)) cs) r → IsOneOf (if list_any is_faulty_row (zip_rows false (zip_length false (extents cs)) cs) then zip_causes false node cs else []) r
     row None h = rw h refl
     row (Some f) h = rw h.0 (one_of-left (flat_map column_causes cs) _ f h.1)
+
     go : (o : Option DataFault) → is_some o ≡ ends_early false cs → IsOneOf (if ends_early false cs then zip_causes false node cs else []) o
         → (r : Option DataFault) → RowFault cs (zip_rows false (zip_length false (extents cs)) cs) r
         → IsOneOf (if ends_early false cs || list_any is_faulty_row (zip_rows false (zip_length false (extents cs)) cs) then zip_causes false node cs else []) (or_else o r)

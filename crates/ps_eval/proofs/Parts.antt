@@ -1,6 +1,6 @@
 -- Cells that are values alone.
 use Rattle.std.proofs.Common.{◌≡◌, List, [], ◌∷◌, ◌++◌, refl, sym, ◌∙◌, ap, append-nil}
-use Rattle.std.specs.Prelude.{map, filter_map, None}
+use Rattle.std.specs.Prelude.{map, None}
 use Rattle.ps_eval.specs.Held.{first_bad, held_values}
 use Rattle.ps_frame.specs.declared.value.Cell.{Cell as Held}
 use Rattle.ps_frame.specs.declared.value.Cell.TheVariants as held

@@ -1,16 +1,15 @@
 -- What is made of whole columns is held of what the definition makes of them.
-use Rattle.std.proofs.Common.{◌≡◌, ℕ, List, [], ◌∷◌, ◌++◌, Bool, true, false, refl, subst, sym, ◌∙◌, ap, inl, inr, append-nil}
-use Rattle.std.specs.Prelude.{map, flat_map, not, ◌||◌, is_some, Option, Some, None, Result, Ok, Err}
+use Rattle.std.proofs.Common.{◌≡◌, List, [], ◌∷◌, true, false, refl, subst, sym, ◌∙◌, ap, inl, append-nil}
+use Rattle.std.specs.Prelude.{map, flat_map, Option, Some, None, Result, Ok, Err}
 use Rattle.std.specs.List.{AllZip, list_any}
 use Rattle.ps_eval.specs.Held.{IsOneOf, Keeps, Settles, cells_of, first_bad, first_fault, held_cell, held_values, or_else, values_of}
 use Rattle.ps_eval.specs.Wholes.{EndsOr, IsOfWhole, first_fault_of, values_in}
 use Rattle.ps_eval.specs.declared.part.Part.{Part}
 use Rattle.ps_eval.specs.declared.part.Values.{Values}
 use Rattle.ps_eval.proofs.Zips.{first-bad, head_fault, map-map, one_of-left, one_of-right, some-ended, values-held}
-use Rattle.ps_frame.specs.Causes.{Cause, Cell, Column, cell_causes, cell_values, column_causes, has_cause, is_empty, value, whole_column}
+use Rattle.ps_frame.specs.Causes.{Cause, Column, cell_causes, cell_values, column_causes, has_cause, is_empty, value, whole_column}
 use Rattle.ps_frame.specs.Eval.{from_whole}
 use Rattle.ps_frame.specs.Evaluated.{IsFaultOf}
-use Rattle.ps_frame.specs.declared.value.Cell.{Cell as Held}
 use Rattle.ps_frame.specs.declared.value.Cell.TheVariants as held
 use Rattle.ps_frame.specs.declared.value.DataFault.{DataFault}
 use Rattle.ps_frame.specs.declared.value.Value.{Value}
@@ -43,6 +42,7 @@ found-in (p ∷ ps) (c ∷ cs) k = go (first_fault p) (causes-one p c k.0) (firs
     more : (o : Option DataFault) → is_empty (column_causes c) ≡ true → FoundIn cs o → FoundIn (c ∷ cs) o
     more None e h = rw (e, h) refl
     more (Some f) e h = (rw (e, h.0) refl, one_of-right (column_causes c) (flat_map column_causes cs) f h.1)
+
     go : (o : Option DataFault) → IsOneOf (column_causes c) o → (rest : Option DataFault) → FoundIn cs rest → FoundIn (c ∷ cs) (or_else o rest)
     go None e rest h = more rest (ap is_empty e) h
     go (Some f) m rest h = (let n = sym (some-ended (column_causes c) (Some f) m) in rw n refl, one_of-left (column_causes c) (flat_map column_causes cs) f m)

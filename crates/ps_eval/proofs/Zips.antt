@@ -1,10 +1,10 @@
 -- What is held of operands side by side is held of the definition's columns side by side.
-use Rattle.std.proofs.Common.{◌≡◌, ℕ, zero, suc, ◌<◌, List, [], ◌∷◌, ◌++◌, length, get_or, Bool, true, false, refl, subst, sym, ◌∙◌, ap, inl, inr, arith, add-one, ◌+◌}
-use Rattle.std.specs.Prelude.{map, flat_map, filter_map, not, ◌||◌, is_some, Option, Some, None, if◌then◌else◌}
+use Rattle.std.proofs.Common.{◌≡◌, ℕ, zero, suc, List, [], ◌∷◌, ◌++◌, length, get_or, Bool, true, false, refl, subst, sym, ◌∙◌, ap, inl, inr, add-one, ◌+◌}
+use Rattle.std.specs.Prelude.{map, flat_map, not, ◌||◌, is_some, Option, Some, None, if◌then◌else◌}
 use Rattle.std.specs.List.{AllZip, list_any}
 use Rattle.std.proofs.lemmas.List.{length-map, map-append}
 use Rattle.ps_eval.specs.Cellwise.{IsCellwise}
-use Rattle.ps_eval.specs.Held.{IsOneOf, Keeps, cell_at, cells_of, ending_of, first_bad, held_cell, held_values}
+use Rattle.ps_eval.specs.Held.{IsOneOf, Keeps, cells_of, ending_of, first_bad, held_cell, held_values}
 use Rattle.ps_eval.specs.Lengths.{ending_fault, extent_held, first_ended}
 use Rattle.ps_eval.specs.Rows.{bad_or, cell_for, cell_from, cells_from, repeats, row_of}
 use Rattle.ps_eval.specs.declared.lengths.Ending.{Ending}
@@ -14,7 +14,6 @@ use Rattle.ps_frame.specs.Eval.{cell_of_row, cellwise}
 use Rattle.ps_frame.specs.Evaluated.{IsFaultOf}
 use Rattle.ps_frame.specs.Zip.{Extent, aligned, below, breaks_shape, broadcasts, cell_in_row, ends_early, extent_of, extents, row_causes, zip_causes, zip_length}
 use Rattle.ps_frame.specs.declared.value.Cell.{Cell as Held}
-use Rattle.ps_frame.specs.declared.value.Cell.TheVariants as held
 use Rattle.ps_frame.specs.declared.value.DataFault.{DataFault}
 use Rattle.ps_frame.specs.declared.value.DataFault.TheVariants as fault
 use Rattle.ps_frame.specs.declared.value.Value.{Value}
@@ -90,6 +89,7 @@ first-ended (e ∷ es) (c ∷ cs) k = go e.fault k.0.ended (first_ended es) (fir
     more : (o : Option DataFault) → is_empty c.broken ≡ true → EndedBy cs o → EndedBy (c ∷ cs) o
     more None e h = rw (e, h) refl
     more (Some f) e h = (rw (e, h.0) refl, one_of-right (column_causes c) (flat_map column_causes cs) f h.1)
+
     go : (o : Option DataFault) → IsOneOf c.broken o → (rest : Option DataFault) → EndedBy cs rest → EndedBy (c ∷ cs) (if is_some o then o else rest)
     go None e rest h = more rest (ap is_empty e) h
     go (Some f) m rest h =
@@ -113,6 +113,7 @@ early node es cs k =
         → IsOneOf (if list_any is_ended cs || false then flat_map column_causes cs ++ [] else []) o
     any None h = rw h refl
     any (Some f) h = rw h.0 (one_of-left (flat_map column_causes cs) [] f h.1)
+
     go : (b : Bool) → breaks_shape false (extents cs) ≡ b
         → IsOneOf (if list_any is_ended cs || breaks_shape false (extents cs) then zip_causes false node cs else []) (if breaks_shape false (extents cs) then Some fault.Shape else first_ended es)
     go true e = rw (e, or-true (list_any is_ended cs)) (one_of-right (flat_map column_causes cs) _ fault.Shape (inl refl))
@@ -181,7 +182,6 @@ cells-more f ps i row cell old new before is made grown =
 -- the cell of an operand that repeats as is told
 pub operand-cell : (p : Part) (i : ℕ) (r : Bool) (a : Held) → r ≡ repeats p → a ≡ cell_for (cells_of p.cells) r i → a ≡ cell_for (cells_of p.cells) (repeats p) i
 operand-cell p i r a e is = is ∙ ap (λ b. cell_for (cells_of p.cells) b i) e
-
 
 pub two_cells : (a x b y : Held) → a ≡ x → b ≡ y → (a ∷ b ∷ []) ≡ x ∷ y ∷ []
 two_cells a x b y e g = cc

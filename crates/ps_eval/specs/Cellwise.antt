@@ -1,5 +1,5 @@
 -- What elementwise operators give of a row of values, and of columns side by side.
-use Rattle.std.specs.Prelude.{◌≡◌, ℕ, List, [], ◌∷◌, map, Bool, true, false, not, Option, Some, None, if◌then◌else◌}
+use Rattle.std.specs.Prelude.{◌≡◌, List, map, Bool, true, false, not, Option, Some, None, if◌then◌else◌}
 use Rattle.ps_eval.specs.Held.{cells_of, ending_of}
 use Rattle.ps_eval.specs.Lengths.{ending_fault, extent_held}
 use Rattle.ps_eval.specs.Rows.{cells_from}

@@ -1,5 +1,5 @@
 -- What is computed of expressions.
-use Rattle.std.specs.Prelude.{◌≡◌, ⊤, ℕ, List, [], ◌∷◌, IsSome, IsTrue, Option, Some}
+use Rattle.std.specs.Prelude.{◌≡◌, ⊤, ℕ, List, [], ◌∷◌, IsSome, IsTrue, Some}
 use Rattle.ps_eval.specs.Held.{Keeps}
 use Rattle.ps_eval.specs.Wholes.{aggregated_of}
 use Rattle.ps_eval.specs.declared.part.Part.{Part}

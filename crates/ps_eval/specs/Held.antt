@@ -1,5 +1,5 @@
 -- What the evaluation holds of a column: of the causes of a faulty cell the first, and of those that ended the column one.
-use Rattle.std.specs.Prelude.{◌≡◌, ◌⊎◌, ℕ, List, [], ◌∷◌, map, filter_map, flat_map, length, get_or, Bool, true, false, not, is_some, Option, Some, None, Result, Ok, Err, if◌then◌else◌}
+use Rattle.std.specs.Prelude.{◌≡◌, ℕ, List, [], ◌∷◌, map, filter_map, length, get_or, Option, Some, None, Result, Ok, Err}
 use Rattle.ps_eval.specs.declared.growing.Growing.{Growing}
 use Rattle.ps_eval.specs.declared.growing.Growing.TheVariants as growing
 use Rattle.ps_eval.specs.declared.lengths.Ending.{Ending}

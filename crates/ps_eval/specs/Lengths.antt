@@ -1,5 +1,5 @@
 -- Operands by how they end.
-use Rattle.std.specs.Prelude.{ℕ, ◌==◌, nat_lt, nat_le, min, List, [], ◌∷◌, map, Bool, true, false, not, ◌&&◌, is_some, Option, Some, None, if◌then◌else◌}
+use Rattle.std.specs.Prelude.{ℕ, ◌==◌, nat_lt, nat_le, min, List, [], ◌∷◌, map, Bool, false, not, ◌&&◌, is_some, Option, Some, None, if◌then◌else◌}
 use Rattle.ps_eval.specs.declared.lengths.Ending.{Ending}
 use Rattle.ps_frame.specs.Zip.{Extent, breaks_shape}
 use Rattle.ps_frame.specs.declared.value.DataFault.{DataFault}

@@ -3,7 +3,6 @@ use Rattle.std.specs.Prelude.{◌≡◌, ℕ, ◌≤◌, List, [], ◌∷◌, �
 use Rattle.std.specs.Borrow.{Bor}
 use Rattle.ps_eval.specs.Held.{cell_at, cells_of, ending_of, first_bad, held_values, or_else}
 use Rattle.ps_eval.specs.Lengths.{ending_fault, extent_held}
-use Rattle.ps_eval.specs.declared.lengths.Ending.{Ending}
 use Rattle.ps_eval.specs.declared.part.Part.{Part}
 use Rattle.ps_frame.specs.Eval.{at}
 use Rattle.ps_frame.specs.Values.{is_true}

@@ -1,5 +1,5 @@
 -- What takes whole columns.
-use Rattle.std.specs.Prelude.{◌≡◌, ℕ, List, [], ◌∷◌, map, Option, Some, None}
+use Rattle.std.specs.Prelude.{◌≡◌, List, [], ◌∷◌, map, Option, Some, None}
 use Rattle.ps_eval.specs.Held.{Keeps, cells_of, first_fault, held_values, or_else}
 use Rattle.ps_eval.specs.declared.part.Part.{Part}
 use Rattle.ps_frame.specs.Causes.{Column}
