@@ -1,0 +1,6 @@
+pub mod Lengths
+pub mod Held
+pub mod Rows
+pub mod Cellwise
+pub mod Wholes
+pub mod Evaluations

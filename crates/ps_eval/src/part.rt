@@ -1,0 +1,215 @@
+// The column of an expression while it is computed.
+ghost use Rattle.std.specs.Prelude.{◌≡◌, ◌<◌, ◌++◌, ◌∷◌, [], length, get_or, map, IfOk, OnOk, MatchResult, Some, None};
+ghost use Rattle.ps_eval.specs.Held.{Keeps, Settles, cell_at, cells_of, ending_of, first_bad, first_fault, held_values, values_of};
+ghost use Rattle.ps_eval.specs.Rows.{repeats as repeats_in, seen as seen_cell};
+ghost use Rattle.ps_frame.specs.Causes.{whole_column};
+ghost use Rattle.ps_frame.specs.declared.value.Cell.TheVariants as held;
+
+use crate::lengths::Ending;
+use ps_frame::column::Column;
+use ps_frame::value::{Cell, DataFault, DataType, Value};
+use std::alloc::{AllocError, Global};
+
+/// Values: those of a column, which are shared with it, or some of their own.
+#[derive(Drop)]
+pub enum Values {
+    Shared(Column),
+    Owned(Vec<Value>),
+}
+
+impl Values {
+    /// The values, in order.
+    pub fn as_slice(&self) -> &[Value]
+        ensures { result.now ≡ values_of self.now }
+    {
+        match self {
+            Values::Shared(column) => column.values(),
+            Values::Owned(values) => values.as_slice(),
+        }
+    }
+
+    /// How many values there are.
+    pub fn len(&self) -> usize
+        ensures { result ≡ length (values_of self.now) }
+    {
+        self.as_slice().len()
+    }
+
+    /// Values of their own; shared ones are copied.
+    pub fn into_vec(self, alloc: Global) -> Result<Vec<Value>, AllocError>
+        ensures { IfOk result (λ values. values.items ≡ values_of self) }
+    {
+        match self {
+            Values::Shared(column) => copy_all(alloc, column.values()),
+            Values::Owned(values) => Ok(values),
+        }
+    }
+}
+
+/// An equal value. Fails only for want of memory.
+pub fn copy_of(alloc: Global, value: &Value) -> Result<Value, AllocError>
+    ensures { IfOk result (λ copy. copy ≡ value.now) }
+{
+    match value.try_clone(alloc) {
+        Ok(copy) => Ok(copy),
+        Err(_) => Err(AllocError),
+    }
+}
+
+/// Equal values. Fails only for want of memory.
+pub fn copy_all(alloc: Global, values: &[Value]) -> Result<Vec<Value>, AllocError>
+    ensures { IfOk result (λ copies. copies.items ≡ values.now) }
+{
+    let mut copies = Vec::with_capacity(alloc, values.len())?;
+    for value in values {
+        copies.push(copy_of(alloc, value)?)?;
+    }
+    Ok(copies)
+}
+
+/// Cells: values alone, or cells of which some may be faulty.
+#[derive(Drop)]
+pub enum Cells {
+    Whole(Values),
+    Mixed(Vec<Cell>),
+}
+
+impl Cells {
+    /// No cells.
+    pub fn new(alloc: Global) -> Cells
+        ensures { cells_of result ≡ [] }
+    {
+        Cells::Whole(Values::Owned(Vec::new(alloc)))
+    }
+
+    /// How many cells there are.
+    pub fn len(&self) -> usize
+        ensures { result ≡ length (cells_of self.now) }
+    {
+        match self {
+            Cells::Whole(values) => values.len(),
+            Cells::Mixed(cells) => cells.len(),
+        }
+    }
+
+    /// The value of the cell at a place, or its fault.
+    pub fn cell(&self, i: usize) -> Result<&Value, DataFault>
+        requires { i < length (cells_of self.now) }
+        ensures { seen_cell result ≡ cell_at (cells_of self.now) i }
+    {
+        match self {
+            Cells::Whole(values) => Ok(&values.as_slice()[i]),
+            Cells::Mixed(cells) => seen(&cells[i]),
+        }
+    }
+}
+
+fn seen(cell: &Cell) -> Result<&Value, DataFault>
+    ensures { seen_cell result ≡ cell.now }
+{
+    match cell {
+        Cell::Val(value) => Ok(value),
+        Cell::Bad(fault) => Err(*fault),
+    }
+}
+
+/// A column: its kind, its cells, and a fault that ended it early.
+#[derive(Drop)]
+pub struct Part {
+    pub dtype: DataType,
+    pub cells: Cells,
+    pub fault: Option<DataFault>,
+}
+
+impl Part {
+    /// How it ends.
+    pub fn ending(&self) -> Ending
+        ensures { result ≡ ending_of self.now }
+    {
+        Ending {
+            fault: self.fault,
+            len: self.cells.len(),
+        }
+    }
+
+    /// Whether its only cell stands in each row.
+    pub fn repeats(&self) -> bool
+        ensures { result ≡ repeats_in self.now }
+    {
+        self.ending().repeats()
+    }
+
+    /// Its values where nothing is faulty, and else one of its faults.
+    ///
+    /// The outer result fails only for want of memory.
+    pub fn settled(self, alloc: Global) -> Result<Result<Values, DataFault>, AllocError>
+        ensures { IfOk result (Settles self) }
+    {
+        match self.fault {
+            Some(fault) => Ok(Err(fault)),
+            None => settled_cells(alloc, self.cells),
+        }
+    }
+}
+
+#[tactic(auto, using(crate::proofs::Parts::no_bad, crate::proofs::Parts::all_values))]
+fn settled_cells(alloc: Global, cells: Cells) -> Result<Result<Values, DataFault>, AllocError>
+    ensures { IfOk result (λ outcome. MatchResult outcome (λ values. (first_bad (cells_of cells) ≡ None) × (values_of values ≡ held_values (cells_of cells))) (λ fault. first_bad (cells_of cells) ≡ Some fault)) }
+{
+    match cells {
+        Cells::Whole(values) => Ok(Ok(values)),
+        Cells::Mixed(cells) => match fault_among(cells.as_slice()) {
+            Some(fault) => Ok(Err(fault)),
+            None => Ok(Ok(Values::Owned(values_among(alloc, cells)?))),
+        },
+    }
+}
+
+fn fault_among(cells: &[Cell]) -> Option<DataFault>
+    ensures { result ≡ first_bad cells.now }
+{
+    for cell in cells {
+        if let Cell::Bad(fault) = cell {
+            return Some(*fault);
+        }
+    }
+    None
+}
+
+#[tactic(auto, using(crate::proofs::Parts::held_values_push))]
+fn values_among(alloc: Global, cells: Vec<Cell>) -> Result<Vec<Value>, AllocError>
+    ensures { IfOk result (λ values. values.items ≡ held_values cells.items) }
+{
+    let mut values = Vec::with_capacity(alloc, cells.len())?;
+    for cell in cells {
+        if let Cell::Val(value) = cell {
+            values.push(value)?;
+        }
+    }
+    Ok(values)
+}
+
+/// A column of these values, without a fault.
+pub fn whole_part(dtype: DataType, values: Vec<Value>) -> Part
+    ensures dtype { result.dtype ≡ dtype }
+    ensures kept { Keeps result (whole_column values.items) }
+{
+    Part {
+        dtype,
+        cells: Cells::Whole(Values::Owned(values)),
+        fault: None,
+    }
+}
+
+/// A column without cells that a fault ended.
+pub fn ended_part(alloc: Global, dtype: DataType, fault: DataFault) -> Part
+    ensures dtype { result.dtype ≡ dtype }
+    ensures cells { cells_of result.cells ≡ [] }
+    ensures fault { result.fault ≡ Some fault }
+{
+    Part {
+        dtype,
+        cells: Cells::new(alloc),
+        fault: Some(fault),
+    }
+}
