@@ -1,0 +1,4 @@
+//! A walk over a plan's arenas, which finds what the arenas decide.
+#![tactic(auto)]
+
+pub mod search;
