@@ -1,4 +1,5 @@
 //! A walk over a plan's arenas, which finds what the arenas decide.
 #![tactic(auto)]
 
+pub mod names;
 pub mod search;
