@@ -1,10 +1,9 @@
 -- Marks after a write, and the looks that are left then.
-use Rattle.std.proofs.Common.{◌≡◌, ◌≢◌, ℕ, zero, suc, ◌+◌, ◌-◌, ◌<◌, ◌≤◌, ◌⊎◌, inl, inr, List, [], ◌∷◌, length, set, slice_get, refl, sym, ◌∙◌, ap, subst, arith}
-use Rattle.std.specs.Prelude.{Option, Some, None}
+use Rattle.std.proofs.Common.{◌≡◌, ◌≢◌, ℕ, zero, suc, ◌+◌, ◌⊎◌, inl, inr, List, [], ◌∷◌, length, set, slice_get, sym, ◌∙◌, subst, arith}
+use Rattle.std.specs.Prelude.{Some}
 use Rattle.std.proofs.lemmas.Option.{slice_get_within}
 use Rattle.ps_survey.specs.Search.{IsMarked, looks, looks_left}
 use Rattle.ps_survey.specs.declared.search.Mark.{Mark}
-use Rattle.ps_survey.specs.declared.search.Mark.TheVariants as mark
 use Rattle.ps_survey.proofs.Lists.{same-or-not, slice_get-set_other, slice_get-set_same}
 
 pub mark-here : (marks : List Mark) (i : ℕ) (a b : Mark) → IsMarked marks i a → IsMarked (set marks i b) i b
@@ -19,8 +18,8 @@ mark-cases marks i n a b c was h = by (same-or-not n i)
   where
     by : (n ≡ i) ⊎ (n ≢ i) → ((n ≡ i) × (b ≡ c)) ⊎ ((n ≢ i) × IsMarked marks n c)
     by (inl e) = let w : slice_get (set marks i b) i ≡ Some c = subst (λ k. slice_get (set marks i b) k ≡ Some c) e h in
-                 let v : Some b ≡ Some c = sym (mark-here marks i a b was) ∙ w in
-                 inl (e, cc)
+        let v : Some b ≡ Some c = sym (mark-here marks i a b was) ∙ w in
+        inl (e, cc)
     by (inr d) = inr (d, sym (slice_get-set_other marks i n b d) ∙ h)
 
 -- a number has one mark

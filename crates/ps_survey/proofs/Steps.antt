@@ -1,10 +1,10 @@
 -- One look of the search, by what it finds.
-use Rattle.std.proofs.Common.{◌≡◌, ◌≢◌, ℕ, zero, suc, ◌+◌, ◌-◌, ◌<◌, ◌≤◌, ◌⊎◌, inl, inr, List, [], ◌∷◌, ◌++◌, length, set, slice_get, refl, sym, ◌∙◌, ap, subst, arith}
+use Rattle.std.proofs.Common.{◌≡◌, ◌≢◌, ℕ, zero, suc, ◌+◌, ◌<◌, ◌≤◌, ◌⊎◌, inl, inr, List, [], ◌∷◌, ◌++◌, length, set, slice_get, refl, sym, ◌∙◌, ap, subst, arith}
 use Rattle.std.specs.Prelude.{Option, Some, None, Result, Ok, Err, Contains, IfOk, OnOk, OnErr, MatchOption, MatchResult}
 use Rattle.std.proofs.lemmas.List.Elements.{Contains-append_left, Contains-push, Contains-push_cases}
-use Rattle.std.proofs.lemmas.Option.{slice_get_within, slice_get-get_or}
+use Rattle.std.proofs.lemmas.Option.{slice_get_within}
 use Rattle.ps_plan.specs.Graph.{Path, Leads, here, onward}
-use Rattle.ps_survey.specs.Search.{AtRest, Ended, HasStopped, IsMarked, IsTrail, NamedFirst, Once, Underway, looks, looks_left}
+use Rattle.ps_survey.specs.Search.{AtRest, Ended, HasStopped, IsMarked, IsTrail, NamedFirst, Once, Underway, looks_left}
 use Rattle.ps_survey.specs.declared.search.Mark.{Mark}
 use Rattle.ps_survey.specs.declared.search.Mark.TheVariants as mark
 use Rattle.ps_survey.specs.declared.search.Stop.{Stop}
@@ -68,26 +68,32 @@ module _ (next : ℕ → List ℕ) where
           once = u.once;
           first = u.first;
           more = u.more;
-          kept = u.kept
+          kept = u.kept;
         }
       where
         done : (n : ℕ) → ((n ≡ at) × (mark.Open (k + 1) ≡ mark.Done)) ⊎ ((n ≢ at) × IsMarked marks n mark.Done) → Contains order n
         done n (inl (e, f)) = cc
         done n (inr h) = u.done n h.1
+
         not-open : (n : ℕ) → Contains order n → n ≡ at → ⊥
         not-open n c e = let h = subst (λ x. IsMarked marks x mark.Done) e (u.marked n c) in let f : mark.Done ≡ mark.Open k = one-mark marks at mark.Done (mark.Open k) h here-mark in cc
+
         on_way : (n j : ℕ) → ((n ≡ at) × (mark.Open (k + 1) ≡ mark.Open j)) ⊎ ((n ≢ at) × IsMarked marks n (mark.Open j)) → Contains (trail ++ at ∷ []) n
         on_way n j (inl h) = subst (λ x. Contains (trail ++ at ∷ []) x) (sym h.0) (Contains-push trail at)
         on_way n j (inr h) = u.on_way n j h.1
+
         way_marked : (n : ℕ) → Contains (trail ++ at ∷ []) n → (n ≡ at) ⊎ (n ≢ at) → (j : ℕ) × IsMarked (set marks at (mark.Open (k + 1))) n (mark.Open j)
         way_marked n c (inl e) = (k + 1, subst (λ x. IsMarked (set marks at (mark.Open (k + 1))) x (mark.Open (k + 1))) (sym e) (mark-here marks at (mark.Open k) (mark.Open (k + 1)) here-mark))
         way_marked n c (inr d) = let h = u.way_marked n c in (h.0, mark-other marks at n (mark.Open h.0) (mark.Open (k + 1)) d h.1)
+
         last : (i a : ℕ) → i < k + 1 → slice_get (next at) i ≡ Some a → (i ≡ k) ⊎ (i ≢ k) → Contains order a
         last i a l e (inl same) = let f : Some m ≡ Some a = sym name ∙ sym (ap (slice_get (next at)) same) ∙ e in let g : m ≡ a = cc in subst (λ x. Contains order x) g (u.done m known)
         last i a l e (inr d) = u.seen at k i a here-mark (omega (arith, l, d)) e
+
         seen : (n j i a : ℕ) → ((n ≡ at) × (mark.Open (k + 1) ≡ mark.Open j)) ⊎ ((n ≢ at) × IsMarked marks n (mark.Open j)) → i < j → slice_get (next n) i ≡ Some a → Contains order a
         seen n j i a (inl h) l e = let p : k + 1 ≡ j = cc in last i a (omega (arith, l, p)) (subst (λ x. slice_get (next x) i ≡ Some a) h.0 e) (same-or-not i k)
         seen n j i a (inr h) l e = u.seen n j i a h.1 l e
+
         places : (n j : ℕ) → ((n ≡ at) × (mark.Open (k + 1) ≡ mark.Open j)) ⊎ ((n ≢ at) × IsMarked marks n (mark.Open j)) → j ≤ length (next n)
         places n j (inl h) = let p : k + 1 ≡ j = cc in let q = slice_get_within (next at) k m name in subst (λ x. j ≤ length (next x)) (sym h.0) (omega (arith, p, q))
         places n j (inr h) = u.places n j h.1
@@ -107,25 +113,31 @@ module _ (next : ℕ → List ℕ) where
           once = u.once;
           first = u.first;
           more = u.more;
-          kept = u.kept
+          kept = u.kept;
         }
       where
         done : (n : ℕ) → ((n ≡ m) × (mark.Open 0 ≡ mark.Done)) ⊎ ((n ≢ m) × IsMarked marks n mark.Done) → Contains order n
         done n (inl (e, f)) = cc
         done n (inr h) = u.done n h.1
+
         not-new : (n : ℕ) → Contains order n → n ≡ m → ⊥
         not-new n c e = let h = subst (λ x. IsMarked marks x mark.Done) e (u.marked n c) in let f : mark.Done ≡ mark.New = one-mark marks m mark.Done mark.New h new in cc
+
         off : (n : ℕ) → Contains (trail ++ at ∷ []) n → n ≡ m → ⊥
         off n c e = let h = u.way_marked n c in let g = subst (λ x. IsMarked marks x (mark.Open h.0)) e h.1 in let f : mark.Open h.0 ≡ mark.New = one-mark marks m (mark.Open h.0) mark.New g new in cc
+
         on_way : (n j : ℕ) → ((n ≡ m) × (mark.Open 0 ≡ mark.Open j)) ⊎ ((n ≢ m) × IsMarked marks n (mark.Open j)) → Contains ((trail ++ at ∷ []) ++ m ∷ []) n
         on_way n j (inl h) = subst (λ x. Contains ((trail ++ at ∷ []) ++ m ∷ []) x) (sym h.0) (Contains-push (trail ++ at ∷ []) m)
         on_way n j (inr h) = Contains-append_left (trail ++ at ∷ []) (m ∷ []) n (u.on_way n j h.1)
+
         way_marked : (n : ℕ) → Contains (trail ++ at ∷ []) n ⊎ (m ≡ n) → (j : ℕ) × IsMarked (set marks m (mark.Open 0)) n (mark.Open j)
         way_marked n (inl c) = let h = u.way_marked n c in (h.0, mark-other marks m n (mark.Open h.0) (mark.Open 0) (off n c) h.1)
         way_marked n (inr e) = (0, subst (λ x. IsMarked (set marks m (mark.Open 0)) x (mark.Open 0)) e (mark-here marks m mark.New (mark.Open 0) new))
+
         seen : (n j i a : ℕ) → ((n ≡ m) × (mark.Open 0 ≡ mark.Open j)) ⊎ ((n ≢ m) × IsMarked marks n (mark.Open j)) → i < j → slice_get (next n) i ≡ Some a → Contains order a
         seen n j i a (inl h) l e = let p : 0 ≡ j = cc in absurd (omega (arith, l, p))
         seen n j i a (inr h) l e = u.seen n j i a h.1 l e
+
         places : (n j : ℕ) → ((n ≡ m) × (mark.Open 0 ≡ mark.Open j)) ⊎ ((n ≢ m) × IsMarked marks n (mark.Open j)) → j ≤ length (next n)
         places n j (inl h) = let p : 0 ≡ j = cc in omega (arith, p)
         places n j (inr h) = u.places n j h.1
@@ -198,7 +210,7 @@ module _ (next : ℕ → List ℕ) where
             once = back-once;
             first = back-first;
             more = back-more;
-            kept = back-kept
+            kept = back-kept;
           }
         where
           way_marked : (n : ℕ) → Contains trail n → (j : ℕ) × IsMarked (set marks at mark.Done) n (mark.Open j)
@@ -211,11 +223,12 @@ module _ (next : ℕ → List ℕ) where
             rest = record { done = back-done; marked = back-marked; none_open = λ n j h. none n (subst (λ xs. Contains xs n) is (back-trail n j h)); once = back-once; first = back-first };
             reaches = subst (λ x. Contains (order ++ at ∷ []) x) (sym from) (Contains-push order at);
             more = back-more;
-            kept = back-kept
+            kept = back-kept;
           }
         where
           none : (n : ℕ) → Contains [] n → ⊥
           none n c = omega (arith, c.1)
+
           from : start ≡ at
           from = subst (λ xs. IsTrail next start xs at) is u.way
 
@@ -263,23 +276,28 @@ module _ (next : ℕ → List ℕ) where
         once = rest.once;
         first = rest.first;
         more = λ n c. inl c;
-        kept = λ n c. c
+        kept = λ n c. c;
       }
     where
       done : (n : ℕ) → ((n ≡ start) × (mark.Open 0 ≡ mark.Done)) ⊎ ((n ≢ start) × IsMarked marks n mark.Done) → Contains order n
       done n (inl (e, f)) = cc
       done n (inr h) = rest.done n h.1
+
       not-new : (n : ℕ) → Contains order n → n ≡ start → ⊥
       not-new n c e = let h = subst (λ x. IsMarked marks x mark.Done) e (rest.marked n c) in let f : mark.Done ≡ mark.New = one-mark marks start mark.Done mark.New h new in cc
+
       on_way : (n j : ℕ) → ((n ≡ start) × (mark.Open 0 ≡ mark.Open j)) ⊎ ((n ≢ start) × IsMarked marks n (mark.Open j)) → Contains (start ∷ []) n
       on_way n j (inl h) = (0, omega arith, sym h.0)
       on_way n j (inr h) = absurd (rest.none_open n j h.1)
+
       way_marked : (n : ℕ) → Contains [] n ⊎ (start ≡ n) → (j : ℕ) × IsMarked (set marks start (mark.Open 0)) n (mark.Open j)
       way_marked n (inl c) = absurd (omega (arith, c.1))
       way_marked n (inr e) = (0, subst (λ x. IsMarked (set marks start (mark.Open 0)) x (mark.Open 0)) e (mark-here marks start mark.New (mark.Open 0) new))
+
       seen : (n j i a : ℕ) → ((n ≡ start) × (mark.Open 0 ≡ mark.Open j)) ⊎ ((n ≢ start) × IsMarked marks n (mark.Open j)) → i < j → slice_get (next n) i ≡ Some a → Contains order a
       seen n j i a (inl h) l e = let p : 0 ≡ j = cc in absurd (omega (arith, l, p))
       seen n j i a (inr h) l e = absurd (rest.none_open n j h.1)
+
       places : (n j : ℕ) → ((n ≡ start) × (mark.Open 0 ≡ mark.Open j)) ⊎ ((n ≢ start) × IsMarked marks n (mark.Open j)) → j ≤ length (next n)
       places n j (inl h) = let p : 0 ≡ j = cc in omega (arith, p)
       places n j (inr h) = absurd (rest.none_open n j h.1)

@@ -1,1 +1,4 @@
+pub mod Counts
+pub mod Flaws
+pub mod Orders
 pub mod Search

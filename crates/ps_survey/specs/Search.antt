@@ -1,5 +1,5 @@
 -- What a depth-first search knows while it is under way, and when it has ended.
-use Rattle.std.specs.Prelude.{◌≡◌, ◌≢◌, ℕ, zero, suc, ◌+◌, ◌-◌, ◌<◌, ◌≤◌, ◌⊎◌, List, [], ◌∷◌, ◌++◌, length, take, slice_get, Option, Some, Contains, AllPairs, ⊤}
+use Rattle.std.specs.Prelude.{◌≡◌, ◌≢◌, ℕ, suc, ◌+◌, ◌-◌, ◌<◌, ◌≤◌, ◌⊎◌, List, [], ◌∷◌, ◌++◌, length, take, slice_get, Some, Contains, AllPairs, ⊤}
 use Rattle.ps_plan.specs.Graph.{Path, Leads}
 use Rattle.ps_survey.specs.declared.search.Mark.{Mark}
 use Rattle.ps_survey.specs.declared.search.Mark.TheVariants as mark
@@ -63,6 +63,14 @@ pub record Ended (next : ℕ → List ℕ) (start : ℕ) (before order : List �
   pub reaches : Contains order start
   pub more : (n : ℕ) → Contains order n → Contains before n ⊎ Path next start n
   pub kept : (n : ℕ) → Contains before n → Contains order n
+
+-- the numbers that the start leads to, each once and after what it names
+pub record IsOrderFrom (next : ℕ → List ℕ) (count start : ℕ) (order : List ℕ) : Type 0 where
+  pub has_start : Contains order start
+  pub reached : (n : ℕ) → Contains order n → Path next start n
+  pub within : (n : ℕ) → Contains order n → n < count
+  pub once : Once order
+  pub first : NamedFirst next order
 
 -- what the start leads to, where a search from it stops
 abbrev pub HasStopped : (ℕ → List ℕ) → ℕ → ℕ → Stop → Type 0

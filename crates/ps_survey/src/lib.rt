@@ -2,4 +2,5 @@
 #![tactic(auto)]
 
 pub mod names;
+pub mod orders;
 pub mod search;

@@ -11,16 +11,19 @@ use ps_plan::ir::{ExprIR, IR};
 use pu_index::{Arena, Node};
 
 /// The expressions of an arena, each of which names its operands.
+#[derive(Clone, Copy)]
 pub struct Operands<'a> {
     pub exprs: &'a Arena<AExpr>,
 }
 
 /// The nodes of an arena, each of which names its inputs.
+#[derive(Clone, Copy)]
 pub struct Inputs<'a> {
     pub nodes: &'a Arena<IR>,
 }
 
 /// The nodes of an arena, each of which names its expressions.
+#[derive(Clone, Copy)]
 pub struct Exprs<'a> {
     pub nodes: &'a Arena<IR>,
 }
@@ -202,7 +205,9 @@ fn expr(entry: &IR, place: usize) -> Option<usize>
         IR::Sort { by_column, .. } => among_exprs(by_column, place),
         IR::GroupBy { keys, aggs, .. } => among_both(keys, aggs, place),
         IR::Join {
-            left_on, right_on, ..
+            left_on,
+            right_on,
+            ..
         } => among_both(left_on, right_on, place),
         IR::DataFrameScan { .. }
         | IR::SimpleProjection { .. }

@@ -1,6 +1,6 @@
 //! A depth-first search with a stack of its own.
 ghost use Rattle.std.specs.Prelude.{◌≡◌, ◌+◌, ◌^◌, ◌<◌, ◌≤◌, ◌∷◌, ◌++◌, ℕ, List, [], length, replicate, slice_get, slice_set, Some, None, Contains, IfOk, IfSome, OnOk, OnErr, MatchOption, MatchResult};
-ghost use Rattle.ps_survey.specs.Search.{AtRest, Ended, HasStopped, IsMarked, Underway, looks_left};
+ghost use Rattle.ps_survey.specs.Search.{AtRest, Ended, HasStopped, IsMarked, IsOrderFrom, Underway, looks_left};
 ghost use Rattle.ps_survey.specs.declared.search.Mark.TheVariants as mark;
 ghost use Rattle.ps_survey.specs.declared.search.Stop.TheVariants as stop;
 
@@ -89,6 +89,18 @@ impl Search {
         })
     }
 
+    /// The numbers that are done, each after all that it names.
+    pub fn into_order(self) -> Vec<usize>
+        ensures { result.items ≡ self.order.items }
+    {
+        let Search {
+            marks: _,
+            order,
+            trail: _,
+        } = self;
+        order
+    }
+
     /// The mark of a number, where it is in range.
     fn mark_of(&self, number: usize) -> Option<Mark>
         ensures { result ≡ slice_get self.now.marks.items number }
@@ -140,7 +152,12 @@ impl Search {
     }
 
     /// Goes on from a number that is not met yet to all that it leads to.
-    fn walk<N: Names, L: Ledger>(&mut self, names: &N, start: usize, steps: &mut Steps<L>) -> Result<(), Stop>
+    fn walk<N: Names, L: Ledger>(
+        &mut self,
+        names: &N,
+        start: usize,
+        steps: &mut Steps<L>,
+    ) -> Result<(), Stop>
         requires size { length self.old.marks.items ≡ N.count names.now }
         requires new { IsMarked self.old.marks.items start mark.New }
         requires trail { self.old.trail.items ≡ [] }
@@ -165,7 +182,12 @@ impl Search {
     /// Goes on from a number to all that it leads to, unless it is done. The search is at rest before and after.
     ///
     /// After an error the search serves no more.
-    pub fn visit<N: Names, L: Ledger>(&mut self, names: &N, start: usize, steps: &mut Steps<L>) -> Result<(), Stop>
+    pub fn visit<N: Names, L: Ledger>(
+        &mut self,
+        names: &N,
+        start: usize,
+        steps: &mut Steps<L>,
+    ) -> Result<(), Stop>
         requires size { length self.old.marks.items ≡ N.count names.now }
         requires range { start < N.count names.now }
         requires trail { self.old.trail.items ≡ [] }
@@ -181,5 +203,26 @@ impl Search {
             Some(Mark::Open(_)) => unreachable!(),
             None => unreachable!(),
         }
+    }
+}
+
+/// The numbers that a start leads to.
+pub fn order_from<N: Names, L: Ledger>(
+    alloc: Global,
+    names: &N,
+    start: usize,
+    steps: &mut Steps<L>,
+) -> Result<Vec<usize>, Stop>
+    requires { start < N.count names.now }
+    ensures found { MatchResult result (λ order. IsOrderFrom (N.named names.now) (N.count names.now) start order.items) (HasStopped (N.named names.now) (N.count names.now) start) }
+    ensures steps { steps.new ≤ steps.old + looks_left (N.named names.now) 0 (replicate (N.count names.now) mark.New) }
+{
+    let mut search = match Search::new(alloc, names.len()) {
+        Ok(search) => search,
+        Err(stop) => return Err(stop),
+    };
+    match search.visit(names, start, steps) {
+        Ok(()) => Ok(search.into_order()),
+        Err(stop) => Err(stop),
     }
 }

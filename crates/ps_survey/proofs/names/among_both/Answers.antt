@@ -1,4 +1,4 @@
-use Rattle.std.proofs.Common.{◌≡◌, sym, ◌∙◌}
+use Rattle.std.proofs.Common.{sym, ◌∙◌}
 use Rattle.ps_survey.proofs.Named.{both-left, both-right}
 use Rattle.ps_survey.proofs.names.among_both.Goals as goal
 

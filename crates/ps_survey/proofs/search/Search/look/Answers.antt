@@ -1,7 +1,5 @@
-use Rattle.std.proofs.Common.{◌≡◌, ℕ, ◌+◌, ◌≤◌, List, length, slice_get, refl, sym, ◌∙◌, ap, arith}
+use Rattle.std.proofs.Common.{sym, ◌∙◌, ap, arith}
 use Rattle.std.specs.Prelude.{Some}
-use Rattle.ps_survey.specs.Search.{IsMarked}
-use Rattle.ps_survey.specs.declared.search.Mark.TheVariants as mark
 use Rattle.ps_survey.proofs.Lists.{from-at, length-from_none}
 use Rattle.ps_survey.proofs.Steps.{circle, less-after, less-into, less-on, step-into, step-on, way-here, went-back}
 use Rattle.ps_survey.proofs.search.Search.look.Goals as goal
@@ -22,9 +20,10 @@ pub returns-in-None-mark_of-clause-found : goal.returns-in-None-mark_of-clause-f
 returns-in-None-mark_of-clause-found g c = λ start before u.
     let here = sym c.in-Some-Open.ensures ∙ ap (λ m. Some m) c.in-Some-Open.field-0-is in
     let far = length-from_none c.args.self.now.marks.items c.in-Some.number (sym c.in-None-mark_of.ensures) in
-    let size = c.requires.size in
-    (way-here (g.N.Names.named c.args.names.now) start before c.args.self.now.order.items c.args.self.now.marks.items c.args.self.now.trail.items c.args.at c.in-Some-Open.place u here,
-    (c.in-Some.number, from-at (g.N.Names.named c.args.names.now c.args.at) c.in-Some-Open.place c.in-Some.number (sym c.in-Some.ensures.name), omega (arith, far, size)))
+    let size = c.requires.size in (
+      way-here (g.N.Names.named c.args.names.now) start before c.args.self.now.order.items c.args.self.now.marks.items c.args.self.now.trail.items c.args.at c.in-Some-Open.place u here,
+      (c.in-Some.number, from-at (g.N.Names.named c.args.names.now c.args.at) c.in-Some-Open.place c.in-Some.number (sym c.in-Some.ensures.name), omega (arith, far, size)),
+    )
 
 pub returns-in-Some-Open-mark_of-clause-found : goal.returns-in-Some-Open-mark_of-clause-found
 returns-in-Some-Open-mark_of-clause-found g c = λ start before u.

@@ -1,6 +1,5 @@
-use Rattle.std.proofs.Common.{◌≡◌, ℕ, ◌+◌, ◌≤◌, List, ◌∷◌, ◌++◌, [], length, set, length-set, refl, sym, ◌∙◌, ap, subst, arith}
-use Rattle.std.specs.Prelude.{Contains}
-use Rattle.ps_survey.specs.Search.{IsMarked, Underway}
+use Rattle.std.proofs.Common.{set, length-set, sym, ◌∙◌, subst, arith}
+use Rattle.ps_survey.specs.Search.{Underway}
 use Rattle.ps_survey.specs.declared.search.Mark.TheVariants as mark
 use Rattle.std.proofs.lemmas.List.Elements.{Contains-push}
 use Rattle.ps_survey.proofs.Steps.{begin, less-into}
@@ -13,7 +12,7 @@ loop-number-init g c =
       size = length-set c.args.self.now.marks.items c.args.start (mark.Open 0) ∙ c.requires.size;
       underway = subst (λ xs. Underway (g.N.Names.named c.args.names.now) c.args.start c.args.self.now.order.items c.args.self.now.order.items (set c.args.self.now.marks.items c.args.start (mark.Open 0)) xs c.args.start) (sym c.requires.trail)
           (begin (g.N.Names.named c.args.names.now) c.args.self.now.order.items c.args.self.now.marks.items c.args.start c.requires.rest c.requires.new);
-      looks = omega (arith, h)
+      looks = omega (arith, h);
     }
 
 pub look-requires-clause-marked : goal.look-requires-clause-marked
