@@ -5,3 +5,6 @@ pub mod Named
 pub mod Steps
 pub mod FlawLemmas
 pub mod Visits
+pub mod ExprTrees
+pub mod PlanTrees
+pub mod NoCircles
