@@ -11,8 +11,9 @@ use Rattle.ps_frame.specs.declared.expr.IRAggExpr.{IRAggExpr}
 use Rattle.ps_frame.specs.declared.expr.IRAggExpr.TheVariants as agg
 use Rattle.ps_frame.proofs.Unfolding.{IsExpression-in_range, tree_at-is}
 use Rattle.ps_plan.specs.Graph.{aggregate_operand, named_by, operands}
-use Rattle.ps_survey.specs.Extents.{expr_depth, expr_size, largest}
+use Rattle.ps_survey.specs.Extents.{IsExtent, expr_depth, expr_size, largest}
 use Rattle.ps_survey.specs.Orders.{operands_in}
+use Rattle.ps_survey.specs.declared.extents.Extent.{Extent}
 
 abbrev pub numbers : List Node → List ℕ
 numbers ns = map (λ (n : Node). n.0) ns
@@ -112,3 +113,6 @@ module _ (exprs : List AExpr) (e : ℕ) (complete : IsExpression exprs (record {
   expr-large =
       let x = found in
       ap tree_size (tree_at-is exprs (record { 0 = e }) x.0 complete x.1) ∙ entry-size (tree_at exprs) x.0 ∙ ap (λ o. suc (sum_by (expr_size exprs) (named_by operands o))) (sym x.1)
+
+  pub expr-extent : (x : Extent) → IsExtent (suc (largest (expr_depth exprs) (operands_in exprs e))) (suc (sum_by (expr_size exprs) (operands_in exprs e))) x → IsExtent (expr_depth exprs e) (expr_size exprs e) x
+  expr-extent x h = subst (λ n. IsExtent n (expr_size exprs e) x) (sym expr-deep) (subst (λ n. IsExtent (suc (largest (expr_depth exprs) (operands_in exprs e))) n x) (sym expr-large) h)

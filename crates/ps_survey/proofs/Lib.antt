@@ -8,3 +8,5 @@ pub mod Visits
 pub mod ExprTrees
 pub mod PlanTrees
 pub mod NoCircles
+pub mod ExtentSteps
+pub mod LimitLemmas

@@ -16,8 +16,9 @@ use Rattle.ps_plan.specs.declared.ir.FunctionIR.TheVariants as call
 use Rattle.ps_plan.specs.declared.ir.IR.{IR}
 use Rattle.ps_plan.specs.declared.ir.IR.TheVariants as entry
 use Rattle.ps_plan.proofs.Unfolding.{IsPlan-in_range, plan_at-is}
-use Rattle.ps_survey.specs.Extents.{expr_depth, expr_size, largest}
+use Rattle.ps_survey.specs.Extents.{IsExtent, expr_depth, expr_size, largest, node_depth, node_size}
 use Rattle.ps_survey.specs.Orders.{exprs_in, inputs_in}
+use Rattle.ps_survey.specs.declared.extents.Extent.{Extent}
 use Rattle.ps_survey.proofs.ExprTrees.{numbers}
 
 pub largest-append : (f : ℕ → ℕ) (xs ys : List ℕ) → largest f (xs ++ ys) ≡ max (largest f xs) (largest f ys)
@@ -150,12 +151,6 @@ module _ (f : Node → PlanTree) where
   inputs-size (n ∷ ns) = ap (λ k. occurrences (f n) + k) (inputs-size ns) ∙ sym (sum_by-cons (λ m. occurrences (f (record { 0 = m }))) n.0 (numbers ns))
 
 module _ (nodes : List IR) (exprs : List AExpr) where
-  abbrev pub node_depth : ℕ → ℕ
-  node_depth n = depth (plan_at nodes exprs (record { 0 = n }))
-
-  abbrev pub node_size : ℕ → ℕ
-  node_size n = occurrences (plan_at nodes exprs (record { 0 = n }))
-
   module _ (n : ℕ) (complete : IsPlan nodes exprs (record { 0 = n })) where
     found : (x : IR) × (slice_get nodes n ≡ Some x)
     found = there nodes n (IsPlan-in_range nodes exprs (record { 0 = n }) complete)
@@ -165,16 +160,22 @@ module _ (nodes : List IR) (exprs : List AExpr) where
         there (x ∷ xs) zero h = (x, refl)
         there (x ∷ xs) (suc k) h = there xs k (omega (arith, h))
 
-    pub node-deep : node_depth n ≡ suc (max (largest (expr_depth exprs) (exprs_in nodes n)) (largest node_depth (inputs_in nodes n)))
+    pub node-deep : node_depth nodes exprs n ≡ suc (max (largest (expr_depth exprs) (exprs_in nodes n)) (largest (node_depth nodes exprs) (inputs_in nodes n)))
     node-deep =
         let x = found in
         ap depth (plan_at-is nodes exprs (record { 0 = n }) x.0 complete x.1) ∙ ap (λ k. suc (max k (depth_of_all (plan_trees_of (plan_at nodes exprs) (entry_inputs x.0))))) (exprs-depth (tree_at exprs) x.0)
         ∙ ap (λ k. suc (max (largest (expr_depth exprs) (numbers (entry_exprs x.0))) k)) (inputs-depth (plan_at nodes exprs) (entry_inputs x.0))
-        ∙ ap (λ o. suc (max (largest (expr_depth exprs) (named_by entry_exprs o)) (largest node_depth (named_by entry_inputs o)))) (sym x.1)
+        ∙ ap (λ o. suc (max (largest (expr_depth exprs) (named_by entry_exprs o)) (largest (node_depth nodes exprs) (named_by entry_inputs o)))) (sym x.1)
 
-    pub node-large : node_size n ≡ suc (sum_by (expr_size exprs) (exprs_in nodes n) + sum_by node_size (inputs_in nodes n))
+    pub node-large : node_size nodes exprs n ≡ suc (sum_by (expr_size exprs) (exprs_in nodes n) + sum_by (node_size nodes exprs) (inputs_in nodes n))
     node-large =
         let x = found in
         ap occurrences (plan_at-is nodes exprs (record { 0 = n }) x.0 complete x.1) ∙ ap (λ k. suc (k + occurrences_of_all (plan_trees_of (plan_at nodes exprs) (entry_inputs x.0)))) (exprs-size (tree_at exprs) x.0)
         ∙ ap (λ k. suc (sum_by (expr_size exprs) (numbers (entry_exprs x.0)) + k)) (inputs-size (plan_at nodes exprs) (entry_inputs x.0))
-        ∙ ap (λ o. suc (sum_by (expr_size exprs) (named_by entry_exprs o) + sum_by node_size (named_by entry_inputs o))) (sym x.1)
+        ∙ ap (λ o. suc (sum_by (expr_size exprs) (named_by entry_exprs o) + sum_by (node_size nodes exprs) (named_by entry_inputs o))) (sym x.1)
+
+    pub node-extent : (x : Extent) → IsExtent (suc (max (largest (expr_depth exprs) (exprs_in nodes n)) (largest (node_depth nodes exprs) (inputs_in nodes n)))) (suc (sum_by (expr_size exprs) (exprs_in nodes n) + sum_by (node_size nodes exprs) (inputs_in nodes n))) x
+        → IsExtent (node_depth nodes exprs n) (node_size nodes exprs n) x
+    node-extent x h =
+        subst (λ k. IsExtent k (node_size nodes exprs n) x) (sym node-deep)
+        (subst (λ k. IsExtent (suc (max (largest (expr_depth exprs) (exprs_in nodes n)) (largest (node_depth nodes exprs) (inputs_in nodes n)))) k x) (sym node-large) h)

@@ -1,5 +1,5 @@
 -- The nodes that a root leads to, and the expressions that these name, each once and after what it names.
-use Rattle.std.specs.Prelude.{ℕ, ◌<◌, ◌⊎◌, List, length, slice_get, Contains}
+use Rattle.std.specs.Prelude.{ℕ, ◌<◌, ◌⊎◌, ◌++◌, List, length, slice_get, Contains}
 use Rattle.ps_frame.specs.declared.expr.AExpr.{AExpr}
 use Rattle.ps_plan.specs.Graph.{Names, Path, exprs_at, inputs_at, named_by, operands, operands_at}
 use Rattle.ps_plan.specs.Plans.{Plan}
@@ -29,6 +29,10 @@ inputs_in nodes n = named_by entry_inputs (slice_get nodes n)
 
 abbrev pub exprs_in : List IR → ℕ → List ℕ
 exprs_in nodes n = named_by entry_exprs (slice_get nodes n)
+
+-- the inputs of a node, and then its expressions
+abbrev pub all_in : List IR → ℕ → List ℕ
+all_in nodes n = inputs_in nodes n ++ exprs_in nodes n
 
 -- a search that is at rest went on to all that these starts lead to
 pub record HasVisited (next : ℕ → List ℕ) (starts before order : List ℕ) (marks : List Mark) : Type 0 where

@@ -2,6 +2,7 @@
 #![tactic(auto)]
 
 pub mod extents;
+pub mod limits;
 pub mod names;
 pub mod orders;
 pub mod search;
