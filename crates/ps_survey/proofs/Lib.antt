@@ -1,0 +1,12 @@
+pub mod Fresh
+pub mod Marks
+pub mod Lists
+pub mod Named
+pub mod Steps
+pub mod FlawLemmas
+pub mod Visits
+pub mod ExprTrees
+pub mod PlanTrees
+pub mod NoCircles
+pub mod ExtentSteps
+pub mod LimitLemmas

@@ -1,0 +1,61 @@
+//! The nodes of a plan against the limits on their depth and their size.
+ghost use Rattle.std.specs.Prelude.{◌≡◌, ◌+◌, ◌<◌, ◌≤◌, ◌⊎◌, suc, max, ℕ, length, sum_by, Contains, IfOk, IfErr};
+ghost use Rattle.pu_index.specs.declared.arena.Node.{Node};
+ghost use Rattle.ps_plan.specs.Graph.{HasNoCircle, Reached};
+ghost use Rattle.ps_plan.specs.Plans.{IsPlan};
+ghost use Rattle.ps_survey.specs.Counts.{looks_at};
+ghost use Rattle.ps_survey.specs.Extents.{HasExtent, IsExtent, IsWithinLimits, expr_depth, expr_size, largest, node_depth, node_size};
+ghost use Rattle.ps_survey.specs.Flaws.{IsFlawOrMemory, plan_of};
+ghost use Rattle.ps_survey.specs.Orders.{all_in, exprs_in, inputs_in};
+ghost use Rattle.ps_survey.specs.Search.{NamedFirst};
+
+use crate::extents::{Extent, extent_below};
+use crate::names::{Exprs, Inputs};
+use ps_frame::expr::AExpr;
+use ps_frame::refusal::{PolarsError, PolarsResult, Why};
+use ps_plan::ir::IR;
+use pu_index::{Arena, Node};
+use pu_order::Steps;
+use std::alloc::Global;
+use std::sync::ledger::Ledger;
+
+/// The extent of a node, by those of its inputs and of its expressions.
+fn node_extent<L: Ledger>(node: usize, inputs: &[Extent], own: &[Extent], nodes: &Arena<IR>, steps: &mut Steps<L>) -> Extent
+    requires node { node < length nodes.now }
+    requires inputs { (m : ℕ) → Contains (inputs_in nodes.now node) m → m < length inputs.now }
+    requires own { (e : ℕ) → Contains (exprs_in nodes.now node) e → e < length own.now }
+    ensures extent { (d s f t : ℕ → ℕ) → ((m : ℕ) → Contains (inputs_in nodes.now node) m → HasExtent inputs.now m (d m) (s m)) → ((e : ℕ) → Contains (exprs_in nodes.now node) e → HasExtent own.now e (f e) (t e)) → IsExtent (suc (max (largest f (exprs_in nodes.now node)) (largest d (inputs_in nodes.now node)))) (suc (sum_by t (exprs_in nodes.now node) + sum_by s (inputs_in nodes.now node))) result }
+    ensures steps { steps.new ≡ steps.old + (length (inputs_in nodes.now node) + length (exprs_in nodes.now node)) }
+{
+    let below = extent_below(&Inputs { nodes }, node, inputs, steps);
+    let beside = extent_below(&Exprs { nodes }, node, own, steps);
+    beside.beside(below).above()
+}
+
+/// Holds the nodes, which stand after what they name, against the limits.
+pub fn check_limits<L: Ledger>(alloc: Global, order: &[usize], own: &[Extent], nodes: &Arena<IR>, exprs: &Arena<AExpr>, steps: &mut Steps<L>) -> PolarsResult<()>
+    requires complete { (n : ℕ) → Contains order.now n → IsPlan nodes.now exprs.now (record { 0 = n }) }
+    requires first { NamedFirst (inputs_in nodes.now) order.now }
+    requires own { (n e : ℕ) → Contains order.now n → Contains (exprs_in nodes.now n) e → HasExtent own.now e (expr_depth exprs.now e) (expr_size exprs.now e) }
+    ensures within { IfOk result (λ _. (n : ℕ) → Contains order.now n → IsWithinLimits (node_depth nodes.now exprs.now n) (node_size nodes.now exprs.now n)) }
+    ensures flaw { (root : Node) → ((n : ℕ) → Contains order.now n → Reached (plan_of root nodes.now exprs.now) n) → ((n : ℕ) → Contains order.now n → HasNoCircle (plan_of root nodes.now exprs.now) n) → IfErr result (IsFlawOrMemory (plan_of root nodes.now exprs.now)) }
+    ensures steps { steps.new ≤ steps.old + looks_at (all_in nodes.now) order.now }
+{
+    let _exprs = exprs;
+    let mut table = match vec![in alloc; Extent::none(); nodes.len()] {
+        Ok(table) => table,
+        Err(_) => return Err(PolarsError::OutOfMemory),
+    };
+    for node in order {
+        steps.tick();
+        let extent = node_extent(*node, &table, own, nodes, steps);
+        if extent.is_past_limits() {
+            return Err(PolarsError::InvalidPlan {
+                node: Node(*node),
+                why: Why::Limits,
+            });
+        }
+        table[*node] = extent;
+    }
+    Ok(())
+}
