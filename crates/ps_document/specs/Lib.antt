@@ -1,0 +1,6 @@
+pub mod Json
+pub mod Words
+pub mod Tables
+pub mod Expressions
+pub mod Nodes
+pub mod Document
