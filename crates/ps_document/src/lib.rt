@@ -2,4 +2,5 @@
 #![tactic(auto)]
 
 mod json;
+mod parts;
 mod words;
