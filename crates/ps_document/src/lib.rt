@@ -1,6 +1,7 @@
 // Documents of tables and a plan: their JSON, and the arenas that they hold.
 #![tactic(auto)]
 
+
 mod json;
 mod parts;
 mod words;
