@@ -1,6 +1,6 @@
 -- Lists of JSON.
 use Rattle.std.proofs.Common.{◌≡◌, ℕ, zero, suc, ◌+◌, ◌<◌, ℤ, List, [], ◌∷◌, ◌++◌, length, take, get_or, refl, ap, sym, ◌∙◌, arith}
-use Rattle.std.specs.Prelude.{map}
+use Rattle.std.specs.Prelude.{map, Option, Some, None, IfNone}
 use Rattle.std.specs.List.{AllByRecursion}
 use Rattle.std.proofs.lemmas.Grind.{take_at_read}
 use Rattle.std.proofs.lemmas.List.{length-map}
@@ -59,3 +59,8 @@ pub one_more : {A B : Type 0} (f : A → Data) (j : B → Data) (xs : List A) (i
 one_more f j xs i x zs z h k e n =
     let t : take (i + 1) xs ≡ take i xs ++ x ∷ [] = (take_at_read xs i x h).1 ∙ ap (λ y. take i xs ++ y ∷ []) (sym k) in
     ap (map f) t ∙ map-snoc f (take i xs) x ∙ ap (λ ys. ys ++ f x ∷ []) e ∙ ap (λ d. map j zs ++ d ∷ []) n ∙ sym (map-snoc j zs z)
+
+-- what holds in any case holds where there is nothing
+pub if_none : {T P : Type 0} (o : Option T) → P → IfNone o P
+if_none None h = h
+if_none (Some x) h = tt

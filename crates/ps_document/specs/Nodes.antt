@@ -47,7 +47,7 @@ node_json table (entry.GroupBy i keys aggs maintain options) =
     list (text (codes "group_by") ∷ entry_number i ∷ list_of named_json keys.items ∷ list_of named_json aggs.items ∷ truth maintain ∷ cut_json options.slice ∷ [])
 node_json table (entry.Join l r left_on right_on args) =
     list (text (codes "join") ∷ entry_number l ∷ entry_number r ∷ text (join_word args.how) ∷ list_of key_json left_on.items ∷ list_of key_json right_on.items
-        ∷ or_null text args.suffix ∷ truth args.join_nulls ∷ text (validation_word args.validation) ∷ cut_json args.slice ∷ [])
+    ∷ or_null text args.suffix ∷ truth args.join_nulls ∷ text (validation_word args.validation) ∷ cut_json args.slice ∷ [])
 node_json table (entry.Distinct i o) =
     list (text (codes "distinct") ∷ entry_number i ∷ or_null (λ names. list_of text names.items) o.subset ∷ truth o.maintain_order ∷ text (keep_word o.keep_strategy) ∷ cut_json o.slice ∷ [])
 node_json table (entry.LeftOut w) = list (text (codes "left_out") ∷ text (what_name w) ∷ [])

@@ -3,8 +3,10 @@ ghost use Rattle.std.specs.Prelude.{◌≡◌, ◌≢◌, ◌↔◌, ◌∷◌, 
 ghost use Rattle.std.specs.Int.{w64};
 ghost use Rattle.serde_json.specs.Data.{Data, null};
 ghost use Rattle.serde_json.specs.View.{view};
+ghost use Rattle.ps_document.specs.Expressions.{entry_number};
 ghost use Rattle.ps_document.specs.Json.{count, list, text, truth, whole_number as whole};
 
+use pu_index::Node;
 use serde_json::Value;
 
 /// The elements of an array.
@@ -87,7 +89,9 @@ pub fn six(value: &Value) -> Option<(&Value, &Value, &Value, &Value, &Value, &Va
 {
     let items = elements(value)?;
     if items.len() == 6 {
-        Some((&items[0], &items[1], &items[2], &items[3], &items[4], &items[5]))
+        Some((
+            &items[0], &items[1], &items[2], &items[3], &items[4], &items[5],
+        ))
     } else {
         None
     }
@@ -152,4 +156,59 @@ pub fn whole_number_of(value: &Value) -> Option<i64>
         Value::Number(number) => number.as_i64(),
         _ => None,
     }
+}
+
+/// What follows a word, where this is just one value.
+pub fn one_after<'a>(value: &'a Value, word: &str) -> Option<&'a Value>
+    ensures some { IfSome result (λ a. view value.now ≡ list (text word.now ∷ view a.now ∷ [])) }
+    ensures none { IfNone result ((a : Data) → view value.now ≢ list (text word.now ∷ a ∷ [])) }
+{
+    match two(value) {
+        Some((first, a)) if is_text(first, word) => Some(a),
+        _ => None,
+    }
+}
+
+/// What follows a word, where these are just two values.
+pub fn two_after<'a>(value: &'a Value, word: &str) -> Option<(&'a Value, &'a Value)>
+    ensures some { IfSome result (λ t. view value.now ≡ list (text word.now ∷ view t.0.now ∷ view t.1.now ∷ [])) }
+    ensures none { IfNone result ((a b : Data) → view value.now ≢ list (text word.now ∷ a ∷ b ∷ [])) }
+{
+    match three(value) {
+        Some((first, a, b)) if is_text(first, word) => Some((a, b)),
+        _ => None,
+    }
+}
+
+/// What follows a word, where these are just three values.
+pub fn three_after<'a>(value: &'a Value, word: &str) -> Option<(&'a Value, &'a Value, &'a Value)>
+    ensures some { IfSome result (λ t. view value.now ≡ list (text word.now ∷ view t.0.now ∷ view t.1.now ∷ view t.2.now ∷ [])) }
+    ensures none { IfNone result ((a b c : Data) → view value.now ≢ list (text word.now ∷ a ∷ b ∷ c ∷ [])) }
+{
+    match four(value) {
+        Some((first, a, b, c)) if is_text(first, word) => Some((a, b, c)),
+        _ => None,
+    }
+}
+
+/// What follows a word, where these are just four values.
+pub fn four_after<'a>(
+    value: &'a Value,
+    word: &str,
+) -> Option<(&'a Value, &'a Value, &'a Value, &'a Value)>
+    ensures some { IfSome result (λ t. view value.now ≡ list (text word.now ∷ view t.0.now ∷ view t.1.now ∷ view t.2.now ∷ view t.3.now ∷ [])) }
+    ensures none { IfNone result ((a b c d : Data) → view value.now ≢ list (text word.now ∷ a ∷ b ∷ c ∷ d ∷ [])) }
+{
+    match five(value) {
+        Some((first, a, b, c, d)) if is_text(first, word) => Some((a, b, c, d)),
+        _ => None,
+    }
+}
+
+/// The number of an entry.
+pub fn entry_of(value: &Value) -> Option<Node>
+    ensures some { IfSome result (λ n. view value.now ≡ entry_number n) }
+    ensures none { IfNone result ((n : Node) → view value.now ≢ entry_number n) }
+{
+    number_of(value).map(Node)
 }

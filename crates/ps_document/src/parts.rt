@@ -1,10 +1,14 @@
 // Parts of a document, and lists of them.
-ghost use Rattle.std.specs.Prelude.{◌≡◌, ◌≢◌, List, IfOk, IfSome, IfNone, map};
+ghost use Rattle.std.specs.Prelude.{◌≡◌, ◌≢◌, ◌∷◌, [], List, IsTrue, IfOk, IfSome, IfNone, codes, map};
 ghost use Rattle.std.specs.List.{AllByRecursion};
 ghost use Rattle.serde_json.specs.View.{view};
-ghost use Rattle.ps_document.specs.Json.{list};
+ghost use Rattle.ps_frame.specs.Lines.{what_name};
+ghost use Rattle.ps_document.specs.Json.{list, text};
+ghost use Rattle.ps_document.specs.Words.{is_left_out_kind};
 
-use crate::json::{elements, number_of, text_of, truth_of};
+use crate::json::{elements, number_of, one_after, text_of, truth_of};
+use crate::words::left_out_kind_of;
+use ps_frame::expr::What;
 use pu_index::Node;
 use pu_order::PlSmallStr;
 use serde_json::Value;
@@ -93,4 +97,14 @@ impl FromJson for PlSmallStr {
             Err(_) => Err(AllocError),
         }
     }
+}
+
+/// The kind of an entry that is left out.
+pub fn left_out_of(value: &Value) -> Option<What>
+    ensures some { IfSome result (λ w. view value.now ≡ list (text (codes "left_out") ∷ text (what_name w) ∷ [])) }
+    ensures left_out { IfSome result (λ w. IsTrue (is_left_out_kind w)) }
+    ensures none { IfNone result ((w : What) → IsTrue (is_left_out_kind w) → view value.now ≢ list (text (codes "left_out") ∷ text (what_name w) ∷ [])) }
+{
+    let word = one_after(value, "left_out")?;
+    left_out_kind_of(text_of(word)?)
 }
