@@ -1,9 +1,9 @@
 -- Lists of JSON.
 use Rattle.std.proofs.Common.{◌≡◌, ℕ, zero, suc, ◌+◌, ◌<◌, ℤ, List, [], ◌∷◌, ◌++◌, length, take, get_or, refl, ap, sym, ◌∙◌, arith}
 use Rattle.std.specs.Prelude.{map, Option, Some, None, IfNone}
-use Rattle.std.specs.List.{AllByRecursion}
+use Rattle.std.specs.List.{AllByRecursion, AllZip}
 use Rattle.std.proofs.lemmas.Grind.{take_at_read}
-use Rattle.std.proofs.lemmas.List.{length-map}
+use Rattle.std.proofs.lemmas.List.{append-nil, length-map}
 use Rattle.serde_json.specs.Data.{Data, Items, item, no_items}
 use Rattle.serde_json.specs.View.{items_of}
 use Rattle.ps_document.specs.Json.{list}
@@ -64,3 +64,22 @@ one_more f j xs i x zs z h k e n =
 pub if_none : {T P : Type 0} (o : Option T) → P → IfNone o P
 if_none None h = h
 if_none (Some x) h = tt
+
+-- one more part, beside its JSON
+pub zip_more : {A B : Type 0} (R : A → Data → Type 0) (f : B → Data) (xs : List A) (ys : List B) (x : A) (y : B) → AllZip R xs (map f ys) → R x (f y) → AllZip R (xs ++ x ∷ []) (map f (ys ++ y ∷ []))
+zip_more R f [] [] x y h r = (r, tt)
+zip_more R f [] (z ∷ zs) x y h r = absurd h
+zip_more R f (w ∷ ws) [] x y h r = absurd h
+zip_more R f (w ∷ ws) (z ∷ zs) x y h r = (h.0, zip_more R f ws zs x y h.1 r)
+
+-- a value among those that are the JSON of parts is that of one of them
+pub zip_at : {A B : Type 0} (R : A → Data → Type 0) (f : B → Data) (xs : List A) (front rest : List B) (y : B) → AllZip R xs (map f (front ++ y ∷ rest)) → (x : A) × R x (f y)
+zip_at R f [] [] rest y h = absurd h
+zip_at R f [] (z ∷ zs) rest y h = absurd h
+zip_at R f (w ∷ ws) [] rest y h = (w, h.0)
+zip_at R f (w ∷ ws) (z ∷ zs) rest y h = zip_at R f ws zs rest y h.1
+
+-- nothing comes after all
+pub all_of : {A : Type 0} (ys rest zs : List A) → ys ++ rest ≡ zs → length rest ≡ 0 → ys ≡ zs
+all_of ys [] zs e n = sym (append-nil ys) ∙ e
+all_of ys (x ∷ xs) zs e n = absurd (omega arith)

@@ -6,6 +6,7 @@ use Rattle.serde_json.specs.Data.{Data, null}
 use Rattle.ps_frame.specs.Frames.{has_distinct_names}
 use Rattle.ps_frame.specs.Lawful.{FitsFrame}
 use Rattle.ps_frame.specs.Tables.{Fields, Frame, values_at}
+use Rattle.ps_frame.specs.Values.{fits_kind}
 use Rattle.ps_frame.specs.declared.value.DataType.{DataType}
 use Rattle.ps_frame.specs.declared.value.Value.{Value}
 use Rattle.ps_frame.specs.declared.value.Value.TheVariants as val
@@ -24,6 +25,12 @@ abbrev pub FitsItsWidth : Value → Type 0
 FitsItsWidth (val.Int64 z) = FitsSigned w64 z
 FitsItsWidth (val.IdxSize n) = n < 2 ^ 32
 FitsItsWidth _ = ⊤
+
+-- the JSON is that of a cell, which may stand in a column of the kind
+pub record IsCell (k : DataType) (v : Value) (d : Data) : Type 0 where
+  pub json : d ≡ cell_json v
+  pub fits : IsTrue (fits_kind k v)
+  pub width : FitsItsWidth v
 
 -- a column: its name, its kind and its cells
 abbrev pub column_json : List ℕ → DataType → List Value → Data

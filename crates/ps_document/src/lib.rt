@@ -4,4 +4,6 @@
 mod exprs;
 mod json;
 mod parts;
+mod tables;
+mod taking;
 mod words;
