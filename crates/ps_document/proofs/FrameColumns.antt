@@ -116,7 +116,7 @@ unfolding holds_word
 apart v w same other e = let h : bytes_eq v v ≡ bytes_eq v w = ap (λ d. holds_word v (as_str d)) e in no-such (sym same ∙ h ∙ other)
 
 -- a kind is told by its word
-kind-of_word : (k l : DataType) → text (kind_word k) ≡ text (kind_word l) → k ≡ l
+pub kind-of_word : (k l : DataType) → text (kind_word k) ≡ text (kind_word l) → k ≡ l
 kind-of_word kind.Boolean kind.Boolean e = refl
 kind-of_word kind.Boolean kind.Int64 e = apart (kind_word kind.Boolean) (kind_word kind.Int64) refl refl e
 kind-of_word kind.Boolean kind.IdxSize e = apart (kind_word kind.Boolean) (kind_word kind.IdxSize) refl refl e

@@ -1,6 +1,6 @@
 -- Lists of JSON.
 use Rattle.std.proofs.Common.{◌≡◌, ℕ, zero, suc, ◌+◌, ◌<◌, ℤ, List, [], ◌∷◌, ◌++◌, length, take, get_or, refl, ap, sym, ◌∙◌, arith}
-use Rattle.std.specs.Prelude.{map, Option, Some, None, IfNone}
+use Rattle.std.specs.Prelude.{map, Option, Some, None, IfNone, Result, Ok, Err, IfOk}
 use Rattle.std.specs.List.{AllByRecursion, AllZip}
 use Rattle.std.proofs.lemmas.Grind.{take_at_read}
 use Rattle.std.proofs.lemmas.List.{append-nil, length-map}
@@ -83,3 +83,9 @@ zip_at R f (w ∷ ws) (z ∷ zs) rest y h = zip_at R f ws zs rest y h.1
 pub all_of : {A : Type 0} (ys rest zs : List A) → ys ++ rest ≡ zs → length rest ≡ 0 → ys ≡ zs
 all_of ys [] zs e n = sym (append-nil ys) ∙ e
 all_of ys (x ∷ xs) zs e n = absurd (omega arith)
+
+-- what follows from what holds where nothing was found
+pub where_none : {T E P Q : Type 0} (r : Result (Option T) E) → (P → Q) → IfOk r (λ o. IfNone o P) → IfOk r (λ o. IfNone o Q)
+where_none (Ok None) f h = f h
+where_none (Ok (Some x)) f h = tt
+where_none (Err e) f h = tt
