@@ -13,7 +13,7 @@ use Rattle.ps_frame.specs.declared.value.DataType.{DataType}
 use Rattle.ps_frame.specs.declared.value.Value.{Value}
 use Rattle.ps_frame.specs.declared.value.Value.TheVariants as val
 use Rattle.ps_document.proofs.FrameColumns.{kind-of_word}
-use Rattle.ps_document.specs.Columns.{IsColumn, named_column_json}
+use Rattle.ps_document.specs.Columns.{IsColumn}
 use Rattle.ps_document.specs.Json.{list, list_of, text}
 use Rattle.ps_document.specs.Tables.{FitsItsWidth, IsCell, IsTable, cell_json, column_json, columns_from}
 use Rattle.ps_document.specs.Words.{kind_word}

@@ -8,10 +8,10 @@ use Rattle.std.specs.Cmp.Lexicographic.{lists_equiv}
 use Rattle.std.specs.Str.{bytes_eq}
 use Rattle.serde_json.specs.Data.{Data}
 use Rattle.serde_json.specs.Find.{as_str}
-use Rattle.ps_frame.proofs.Lists.{and_both, both}
+use Rattle.ps_frame.proofs.Lists.{both}
 use Rattle.ps_frame.proofs.Rows.{values_at-rows_of}
 use Rattle.ps_frame.specs.Frames.{AllOfHeight, HasOneHeight, IsFrame, column_values, frame_of, has_distinct_names, has_name, height_of, kinds_of}
-use Rattle.ps_frame.specs.Lawful.{FitsFrame, FitsKinds}
+use Rattle.ps_frame.specs.Lawful.{FitsKinds}
 use Rattle.ps_frame.specs.Tables.{Fields, Frame, beside, rows_of, values_at}
 use Rattle.ps_frame.specs.Typed.{Typed, all_fit}
 use Rattle.ps_frame.specs.Values.{fits_kind}
@@ -22,7 +22,7 @@ use Rattle.ps_frame.specs.declared.value.Value.TheVariants as val
 use Rattle.ps_document.proofs.Lists.{list_length, list_same}
 use Rattle.ps_document.specs.Columns.{IsColumn, field_of, fields_of, named_column_json, typed_of}
 use Rattle.ps_document.specs.Json.{list, list_of, text}
-use Rattle.ps_document.specs.Tables.{FitsItsWidth, IsTable, cell_json, column_json, columns_from, table_json}
+use Rattle.ps_document.specs.Tables.{FitsItsWidth, IsTable, cell_json, column_json, columns_from}
 use Rattle.ps_document.specs.Words.{kind_word}
 use Rattle.ps_document.specs.declared.tables.NamedColumn.{NamedColumn}
 

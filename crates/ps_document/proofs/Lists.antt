@@ -1,7 +1,7 @@
 -- Lists of JSON.
-use Rattle.std.proofs.Common.{◌≡◌, ℕ, zero, suc, ◌+◌, ◌<◌, ℤ, List, [], ◌∷◌, ◌++◌, length, take, get_or, refl, ap, sym, ◌∙◌, arith}
+use Rattle.std.proofs.Common.{◌≡◌, ℕ, zero, suc, ◌+◌, ◌<◌, List, [], ◌∷◌, ◌++◌, length, take, get_or, refl, ap, sym, ◌∙◌, arith}
 use Rattle.std.specs.Prelude.{map, Option, Some, None, IfNone, Result, Ok, Err, IfOk}
-use Rattle.std.specs.List.{AllByRecursion, AllZip}
+use Rattle.std.specs.List.{AllZip}
 use Rattle.std.proofs.lemmas.Grind.{take_at_read}
 use Rattle.std.proofs.lemmas.List.{append-nil, length-map}
 use Rattle.serde_json.specs.Data.{Data, Items, item, no_items}
@@ -39,15 +39,11 @@ pub list_same : (ds es : List Data) → list ds ≡ list es → ds ≡ es
 list_same ds es e = let f : items_of ds ≡ items_of es = cc in sym (elements_of-items ds) ∙ ap elements_of f ∙ elements_of-items es
 
 -- an element of what is the JSON of parts is that of one of them
-pub part_at : {A B : Type 0} (f : A → Data) (j : B → Data) (P : B → Type 0) (xs : List A) (zs : List B) (i : ℕ) (x : A) → map f xs ≡ map j zs → AllByRecursion P zs → i < length xs → x ≡ get_or xs i x → (z : B) × P z × (f x ≡ j z)
-part_at f j P [] zs i x e r h k = absurd (omega arith)
-part_at f j P (y ∷ ys) [] i x e r h k = cc
-part_at f j P (y ∷ ys) (z ∷ zs) zero x e r h k = let first : f y ≡ j z = cc in (z, r.0, ap f k ∙ first)
-part_at f j P (y ∷ ys) (z ∷ zs) (suc i) x e r h k = let rest : map f ys ≡ map j zs = cc in let l : i < length ys = omega arith in part_at f j P ys zs i x rest r.1 l k
-
-pub all_more : {B : Type 0} (P : B → Type 0) (zs : List B) (z : B) → AllByRecursion P zs → P z → AllByRecursion P (zs ++ z ∷ [])
-all_more P [] z r h = (h, tt)
-all_more P (y ∷ ys) z r h = (r.0, all_more P ys z r.1 h)
+pub part_at : {A B : Type 0} (f : A → Data) (j : B → Data) (xs : List A) (zs : List B) (i : ℕ) (x : A) → map f xs ≡ map j zs → i < length xs → x ≡ get_or xs i x → (z : B) × (f x ≡ j z)
+part_at f j [] zs i x e h k = absurd (omega arith)
+part_at f j (y ∷ ys) [] i x e h k = cc
+part_at f j (y ∷ ys) (z ∷ zs) zero x e h k = let first : f y ≡ j z = cc in (z, ap f k ∙ first)
+part_at f j (y ∷ ys) (z ∷ zs) (suc i) x e h k = let rest : map f ys ≡ map j zs = cc in let l : i < length ys = omega arith in part_at f j ys zs i x rest l k
 
 pub map-snoc : {A B : Type 0} (f : A → B) (xs : List A) (x : A) → map f (xs ++ x ∷ []) ≡ map f xs ++ f x ∷ []
 map-snoc f [] x = refl

@@ -1,5 +1,5 @@
 -- The columns of a table, each with its name.
-use Rattle.std.specs.Prelude.{ℕ, suc, ◌≡◌, List, [], ◌∷◌, IsTrue, map}
+use Rattle.std.specs.Prelude.{ℕ, ◌≡◌, List, IsTrue, map}
 use Rattle.std.specs.List.{AllByRecursion}
 use Rattle.serde_json.specs.Data.{Data}
 use Rattle.ps_frame.specs.Tables.{Fields}

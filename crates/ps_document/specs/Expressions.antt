@@ -1,5 +1,5 @@
 -- The JSON of an expression.
-use Rattle.std.specs.Prelude.{ℕ, ◌≡◌, ◌<◌, ◌^◌, List, [], ◌∷◌, codes, IsTrue, FitsSigned, ⊤}
+use Rattle.std.specs.Prelude.{◌≡◌, ◌<◌, ◌^◌, [], ◌∷◌, codes, IsTrue, FitsSigned, ⊤}
 use Rattle.std.specs.Int.{w64}
 use Rattle.serde_json.specs.Data.{Data}
 use Rattle.pu_index.specs.declared.arena.Node.{Node}

@@ -1,10 +1,10 @@
 -- The JSON of a node.
-use Rattle.std.specs.Prelude.{ℕ, ℤ, ◌≡◌, ◌<◌, ◌^◌, List, [], ◌∷◌, Bool, codes, Option, Some, None, IsTrue, FitsSigned, slice_get, option_map, ⊤}
+use Rattle.std.specs.Prelude.{ℕ, ◌≡◌, ◌<◌, ◌^◌, List, [], ◌∷◌, codes, Some, None, IsTrue, FitsSigned, slice_get, ⊤}
 use Rattle.std.specs.Int.{w64}
 use Rattle.serde_json.specs.Data.{Data}
 use Rattle.ps_frame.specs.Lines.{what_name}
 use Rattle.ps_frame.specs.Tables.{Frame}
-use Rattle.ps_plan.specs.Steps.{Cut, Name, name_in}
+use Rattle.ps_plan.specs.Steps.{Cut, name_in}
 use Rattle.ps_plan.specs.declared.ir.ExprIR.{ExprIR}
 use Rattle.ps_plan.specs.declared.ir.IR.{IR}
 use Rattle.ps_plan.specs.declared.ir.IR.TheVariants as entry

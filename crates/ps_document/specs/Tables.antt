@@ -1,5 +1,5 @@
 -- The JSON of a table.
-use Rattle.std.specs.Prelude.{ℕ, suc, ℤ, ◌<◌, ◌^◌, ◌≡◌, List, [], ◌∷◌, IsTrue, FitsSigned, ⊤}
+use Rattle.std.specs.Prelude.{ℕ, suc, ◌<◌, ◌^◌, ◌≡◌, List, [], ◌∷◌, IsTrue, FitsSigned, ⊤}
 use Rattle.std.specs.Int.{w64}
 use Rattle.std.specs.List.{AllByRecursion}
 use Rattle.serde_json.specs.Data.{Data, null}

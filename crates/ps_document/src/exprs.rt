@@ -14,7 +14,8 @@ use crate::json::{
     entry_of, four_after, is_text, one, one_after, short_number_of, text_of, three, three_after,
     truth_of, two, two_after, whole_number_of,
 };
-use crate::parts::{FromJson, left_out_of, list_from};
+use crate::parts::{FromJson, Plain, left_out_of, list_from};
+use crate::taking::TakeJson;
 use crate::words::{function_of, kind_of, operator_of};
 use ps_frame::expr::{AExpr, FunctionExpr, IRAggExpr, LiteralValue, Operator, What};
 use ps_frame::value::DataType;
@@ -252,13 +253,13 @@ fn sort_by_of(alloc: Global, value: &Value) -> Result<Option<AExpr>, AllocError>
     let Some(expr) = entry_of(expr) else {
         return Ok(None);
     };
-    let Some(by) = list_from::<Node>(alloc, by)? else {
+    let Some(by) = list_from::<Plain, Node>(alloc, by)? else {
         return Ok(None);
     };
-    let Some(descending) = list_from::<bool>(alloc, descending)? else {
+    let Some(descending) = list_from::<Plain, bool>(alloc, descending)? else {
         return Ok(None);
     };
-    let Some(nulls_last) = list_from::<bool>(alloc, nulls_last)? else {
+    let Some(nulls_last) = list_from::<Plain, bool>(alloc, nulls_last)? else {
         return Ok(None);
     };
     Ok(Some(AExpr::SortBy {
@@ -307,23 +308,31 @@ fn plain_of(value: &Value) -> Option<AExpr>
     left_out_of(value).map(AExpr::LeftOut)
 }
 
-impl FromJson for AExpr {
-    ghost use Rattle.ps_document.specs.Expressions.{CanStand, expr_json};
+/// The expression of a value.
+///
+/// `None` where it is that of none. Fails only for want of memory.
+fn expression_of(alloc: Global, value: &Value) -> Result<Option<AExpr>, AllocError>
+    ensures some { IfOk result (λ o. IfSome o (λ e. IsExpr e (view value.now))) }
+    ensures none { IfOk result (λ o. IfNone o ((e : AExpr) → CanStand e → view value.now ≢ expr_json e)) }
+{
+    if let Some(expr) = plain_of(value) {
+        return Ok(Some(expr));
+    }
+    if let Some(expr) = column_of(alloc, value)? {
+        return Ok(Some(expr));
+    }
+    if let Some(literal) = literal_of(alloc, value)? {
+        return Ok(Some(AExpr::Literal(literal)));
+    }
+    sort_by_of(alloc, value)
+}
 
-    ghost json = { expr_json };
+impl TakeJson<()> for AExpr {
+    ghost use Rattle.ps_document.specs.Expressions.{IsExpr};
 
-    ghost can_stand = { CanStand };
+    ghost is_json = { λ _ e d. IsExpr e d };
 
-    fn from_json(alloc: Global, value: &Value) -> Result<Option<AExpr>, AllocError> {
-        if let Some(expr) = plain_of(value) {
-            return Ok(Some(expr));
-        }
-        if let Some(expr) = column_of(alloc, value)? {
-            return Ok(Some(expr));
-        }
-        if let Some(literal) = literal_of(alloc, value)? {
-            return Ok(Some(AExpr::Literal(literal)));
-        }
-        sort_by_of(alloc, value)
+    fn take_json(alloc: Global, _context: &(), value: Value) -> Result<Option<AExpr>, AllocError> {
+        expression_of(alloc, &value)
     }
 }

@@ -97,6 +97,37 @@ pub fn six(value: &Value) -> Option<(&Value, &Value, &Value, &Value, &Value, &Va
     }
 }
 
+/// The elements of an array of ten.
+pub fn ten(
+    value: &Value,
+) -> Option<
+    (
+        &Value,
+        &Value,
+        &Value,
+        &Value,
+        &Value,
+        &Value,
+        &Value,
+        &Value,
+        &Value,
+        &Value,
+    ),
+>
+    ensures some { IfSome result (λ t. view value.now ≡ list (view t.0.now ∷ view t.1.now ∷ view t.2.now ∷ view t.3.now ∷ view t.4.now ∷ view t.5.now ∷ view t.6.now ∷ view t.7.now ∷ view t.8.now ∷ view t.9.now ∷ [])) }
+    ensures none { IfNone result ((a b c d e f g h i j : Data) → view value.now ≢ list (a ∷ b ∷ c ∷ d ∷ e ∷ f ∷ g ∷ h ∷ i ∷ j ∷ [])) }
+{
+    let items = elements(value)?;
+    if items.len() == 10 {
+        Some((
+            &items[0], &items[1], &items[2], &items[3], &items[4], &items[5], &items[6], &items[7],
+            &items[8], &items[9],
+        ))
+    } else {
+        None
+    }
+}
+
 /// Whether this is a text.
 pub fn is_text(value: &Value, wanted: &str) -> bool
     ensures { IsTrue result ↔ (view value.now ≡ text wanted.now) }
@@ -202,6 +233,48 @@ pub fn four_after<'a>(
     match five(value) {
         Some((first, a, b, c, d)) if is_text(first, word) => Some((a, b, c, d)),
         _ => None,
+    }
+}
+
+/// What follows a word, where these are just five values.
+pub fn five_after<'a>(
+    value: &'a Value,
+    word: &str,
+) -> Option<(&'a Value, &'a Value, &'a Value, &'a Value, &'a Value)>
+    ensures some { IfSome result (λ t. view value.now ≡ list (text word.now ∷ view t.0.now ∷ view t.1.now ∷ view t.2.now ∷ view t.3.now ∷ view t.4.now ∷ [])) }
+    ensures none { IfNone result ((a b c d e : Data) → view value.now ≢ list (text word.now ∷ a ∷ b ∷ c ∷ d ∷ e ∷ [])) }
+{
+    match six(value) {
+        Some((first, a, b, c, d, e)) if is_text(first, word) => Some((a, b, c, d, e)),
+        _ => None,
+    }
+}
+
+/// What follows a word, where these are just nine values.
+pub fn nine_after<'a>(
+    value: &'a Value,
+    word: &str,
+) -> Option<
+    (
+        &'a Value,
+        &'a Value,
+        &'a Value,
+        &'a Value,
+        &'a Value,
+        &'a Value,
+        &'a Value,
+        &'a Value,
+        &'a Value,
+    ),
+>
+    ensures some { IfSome result (λ t. view value.now ≡ list (text word.now ∷ view t.0.now ∷ view t.1.now ∷ view t.2.now ∷ view t.3.now ∷ view t.4.now ∷ view t.5.now ∷ view t.6.now ∷ view t.7.now ∷ view t.8.now ∷ [])) }
+    ensures none { IfNone result ((a b c d e f g h i : Data) → view value.now ≢ list (text word.now ∷ a ∷ b ∷ c ∷ d ∷ e ∷ f ∷ g ∷ h ∷ i ∷ [])) }
+{
+    let (first, a, b, c, d, e, f, g, h, i) = ten(value)?;
+    if is_text(first, word) {
+        Some((a, b, c, d, e, f, g, h, i))
+    } else {
+        None
     }
 }
 

@@ -1,45 +1,53 @@
 // Parts of a document, and lists of them.
-ghost use Rattle.std.specs.Prelude.{◌≡◌, ◌≢◌, ◌∷◌, [], List, IsTrue, IfOk, IfSome, IfNone, codes, map};
-ghost use Rattle.std.specs.List.{AllByRecursion};
+ghost use Rattle.std.specs.Prelude.{◌≡◌, ◌≢◌, ◌∷◌, [], List, IsTrue, IfOk, IfSome, IfNone, codes};
 ghost use Rattle.serde_json.specs.View.{view};
 ghost use Rattle.ps_frame.specs.Lines.{what_name};
-ghost use Rattle.ps_document.specs.Json.{list, text};
+ghost use Rattle.ps_document.specs.Json.{list, list_of, text};
 ghost use Rattle.ps_document.specs.Words.{is_left_out_kind};
 
-use crate::json::{elements, number_of, one_after, text_of, truth_of};
+use crate::json::{elements, entry_of, one_after, text_of, truth_of, two};
 use crate::words::left_out_kind_of;
 use ps_frame::expr::What;
+use ps_plan::ir::{ExprIR, OutputName};
 use pu_index::Node;
 use pu_order::PlSmallStr;
 use serde_json::Value;
 use std::alloc::{AllocError, Global};
 
-/// A part of a document, which is read from its JSON.
-pub trait FromJson: Drop {
+/// A part of a document, which is read from its JSON. A part of several forms is read in the form `F`.
+pub trait FromJson<F>: Drop {
     ghost use Rattle.std.specs.Prelude.{◌≡◌, ◌≢◌, IfOk, IfSome, IfNone};
     ghost use Rattle.serde_json.specs.Data.{Data};
     ghost use Rattle.serde_json.specs.View.{view};
 
     ghost json: { Self → Data };
 
-    ghost can_stand: { Self → Type 0 };
-
     /// The part that a value is the JSON of.
     ///
     /// `None` where it is that of none. Fails only for want of memory.
     fn from_json(alloc: Global, value: &Value) -> Result<Option<Self>, AllocError>
         ensures some { IfOk result (λ o. IfSome o (λ x. view value.now ≡ json x)) }
-        ensures stands { IfOk result (λ o. IfSome o can_stand) }
-        ensures none { IfOk result (λ o. IfNone o ((x : Self) → can_stand x → view value.now ≢ json x)) };
+        ensures none { IfOk result (λ o. IfNone o ((x : Self) → view value.now ≢ json x)) };
 }
+
+/// The only form that a part has.
+pub struct Plain;
+
+/// An expression under its output name.
+pub struct Named;
+
+/// An expression of which only its number stands.
+pub struct Key;
 
 /// The parts that an array holds.
 ///
 /// `None` where the value is no array of such parts. Fails only for want of memory.
-pub fn list_from<T: FromJson>(alloc: Global, value: &Value) -> Result<Option<Vec<T>>, AllocError>
-    ensures some { IfOk result (λ o. IfSome o (λ xs. view value.now ≡ list (map T.json xs.items))) }
-    ensures stand { IfOk result (λ o. IfSome o (λ xs. AllByRecursion T.can_stand xs.items)) }
-    ensures none { IfOk result (λ o. IfNone o ((xs : List T) → AllByRecursion T.can_stand xs → view value.now ≢ list (map T.json xs))) }
+pub fn list_from<F, T: FromJson<F>>(
+    alloc: Global,
+    value: &Value,
+) -> Result<Option<Vec<T>>, AllocError>
+    ensures some { IfOk result (λ o. IfSome o (λ xs. view value.now ≡ list_of T.FromJson.json xs.items)) }
+    ensures none { IfOk result (λ o. IfNone o ((xs : List T) → view value.now ≢ list_of T.FromJson.json xs)) }
 {
     let Some(items) = elements(value) else {
         return Ok(None);
@@ -54,39 +62,30 @@ pub fn list_from<T: FromJson>(alloc: Global, value: &Value) -> Result<Option<Vec
     Ok(Some(parts))
 }
 
-impl FromJson for Node {
-    ghost use Rattle.std.specs.Prelude.{⊤};
+impl FromJson<Plain> for Node {
     ghost use Rattle.ps_document.specs.Expressions.{entry_number};
 
     ghost json = { entry_number };
 
-    ghost can_stand = { λ _. ⊤ };
-
     fn from_json(_alloc: Global, value: &Value) -> Result<Option<Node>, AllocError> {
-        Ok(number_of(value).map(Node))
+        Ok(entry_of(value))
     }
 }
 
-impl FromJson for bool {
-    ghost use Rattle.std.specs.Prelude.{⊤};
+impl FromJson<Plain> for bool {
     ghost use Rattle.ps_document.specs.Json.{truth};
 
     ghost json = { truth };
-
-    ghost can_stand = { λ _. ⊤ };
 
     fn from_json(_alloc: Global, value: &Value) -> Result<Option<bool>, AllocError> {
         Ok(truth_of(value))
     }
 }
 
-impl FromJson for PlSmallStr {
-    ghost use Rattle.std.specs.Prelude.{⊤};
+impl FromJson<Plain> for PlSmallStr {
     ghost use Rattle.ps_document.specs.Json.{text};
 
     ghost json = { text };
-
-    ghost can_stand = { λ _. ⊤ };
 
     fn from_json(alloc: Global, value: &Value) -> Result<Option<PlSmallStr>, AllocError> {
         let Some(text) = text_of(value) else {
@@ -96,6 +95,42 @@ impl FromJson for PlSmallStr {
             Ok(text) => Ok(Some(text)),
             Err(_) => Err(AllocError),
         }
+    }
+}
+
+impl FromJson<Named> for ExprIR {
+    ghost use Rattle.ps_document.specs.Nodes.{named_json};
+
+    ghost json = { named_json };
+
+    fn from_json(alloc: Global, value: &Value) -> Result<Option<ExprIR>, AllocError> {
+        let Some((name, node)) = two(value) else {
+            return Ok(None);
+        };
+        let Some(node) = entry_of(node) else {
+            return Ok(None);
+        };
+        let name = PlSmallStr::from_json(alloc, name)?;
+        Ok(name.map(|name| ExprIR {
+            node,
+            output_name: OutputName::Alias(name),
+        }))
+    }
+}
+
+impl FromJson<Key> for ExprIR {
+    ghost use Rattle.ps_document.specs.Nodes.{key_json};
+
+    ghost json = { key_json };
+
+    fn from_json(alloc: Global, value: &Value) -> Result<Option<ExprIR>, AllocError> {
+        let Some(node) = entry_of(value) else {
+            return Ok(None);
+        };
+        Ok(Some(ExprIR {
+            node,
+            output_name: OutputName::ColumnLhs(PlSmallStr::empty(alloc)),
+        }))
     }
 }
 

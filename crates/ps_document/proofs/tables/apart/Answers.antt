@@ -2,7 +2,7 @@ use Rattle.std.proofs.Common.{rules, ◌≡◌, ◌∷◌, ◌++◌, [], ◌∙�
 use Rattle.ps_frame.proofs.Names.{distinct-append}
 use Rattle.ps_frame.specs.Frames.{has_distinct_names, has_name}
 use Rattle.ps_document.proofs.FrameColumns.{fields-more, not-distinct, typed-more}
-use Rattle.ps_document.specs.Columns.{field_of, fields_of, typed_of}
+use Rattle.ps_document.specs.Columns.{field_of, fields_of}
 use Rattle.ps_document.proofs.tables.apart.Goals as goal
 
 pub loop-item-preserved : goal.loop-item-preserved
