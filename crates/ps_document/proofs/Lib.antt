@@ -1,0 +1,4 @@
+mod Lists
+mod FrameColumns
+mod CellColumns
+mod TenItems

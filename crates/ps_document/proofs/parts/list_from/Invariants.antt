@@ -1,0 +1,7 @@
+use Rattle.std.proofs.Common.{◌≡◌, take}
+use Rattle.std.specs.Prelude.{map}
+use Rattle.serde_json.specs.View.{view}
+use Rattle.ps_document.proofs.parts.list_from.Given as goal
+
+abbrev pub invariant-loop-item : goal.invariant-loop-item
+invariant-loop-item g l = map view (take l.item-index l.items) ≡ map g.T.FromJson.json l.parts.items

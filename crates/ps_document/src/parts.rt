@@ -1,0 +1,145 @@
+// Parts of a document, and lists of them.
+ghost use Rattle.std.specs.Prelude.{◌≡◌, ◌≢◌, ◌∷◌, [], List, IsTrue, IfOk, IfSome, IfNone, codes};
+ghost use Rattle.serde_json.specs.View.{view};
+ghost use Rattle.ps_frame.specs.Lines.{what_name};
+ghost use Rattle.ps_document.specs.Json.{list, list_of, text};
+ghost use Rattle.ps_document.specs.Words.{is_left_out_kind};
+
+use crate::json::{elements, entry_of, one_after, text_of, truth_of, two};
+use crate::words::left_out_kind_of;
+use ps_frame::expr::What;
+use ps_plan::ir::{ExprIR, OutputName};
+use pu_index::Node;
+use pu_order::PlSmallStr;
+use serde_json::Value;
+use std::alloc::{AllocError, Global};
+
+/// A part of a document, which is read from its JSON. A part of several forms is read in the form `F`.
+pub trait FromJson<F>: Drop {
+    ghost use Rattle.std.specs.Prelude.{◌≡◌, ◌≢◌, IfOk, IfSome, IfNone};
+    ghost use Rattle.serde_json.specs.Data.{Data};
+    ghost use Rattle.serde_json.specs.View.{view};
+
+    ghost json: { Self → Data };
+
+    /// The part that a value is the JSON of.
+    ///
+    /// `None` where it is that of none. Fails only for want of memory.
+    fn from_json(alloc: Global, value: &Value) -> Result<Option<Self>, AllocError>
+        ensures some { IfOk result (λ o. IfSome o (λ x. view value.now ≡ json x)) }
+        ensures none { IfOk result (λ o. IfNone o ((x : Self) → view value.now ≢ json x)) };
+}
+
+/// The only form that a part has.
+pub struct Plain;
+
+/// An expression under its output name.
+pub struct Named;
+
+/// An expression of which only its number stands.
+pub struct Key;
+
+/// The parts that an array holds.
+///
+/// `None` where the value is no array of such parts. Fails only for want of memory.
+pub fn list_from<F, T: FromJson<F>>(
+    alloc: Global,
+    value: &Value,
+) -> Result<Option<Vec<T>>, AllocError>
+    ensures some { IfOk result (λ o. IfSome o (λ xs. view value.now ≡ list_of T.FromJson.json xs.items)) }
+    ensures none { IfOk result (λ o. IfNone o ((xs : List T) → view value.now ≢ list_of T.FromJson.json xs)) }
+{
+    let Some(items) = elements(value) else {
+        return Ok(None);
+    };
+    let mut parts = Vec::with_capacity(alloc, items.len())?;
+    for item in items {
+        match T::from_json(alloc, item)? {
+            Some(part) => parts.push(part)?,
+            None => return Ok(None),
+        }
+    }
+    Ok(Some(parts))
+}
+
+impl FromJson<Plain> for Node {
+    ghost use Rattle.ps_document.specs.Expressions.{entry_number};
+
+    ghost json = { entry_number };
+
+    fn from_json(_alloc: Global, value: &Value) -> Result<Option<Node>, AllocError> {
+        Ok(entry_of(value))
+    }
+}
+
+impl FromJson<Plain> for bool {
+    ghost use Rattle.ps_document.specs.Json.{truth};
+
+    ghost json = { truth };
+
+    fn from_json(_alloc: Global, value: &Value) -> Result<Option<bool>, AllocError> {
+        Ok(truth_of(value))
+    }
+}
+
+impl FromJson<Plain> for PlSmallStr {
+    ghost use Rattle.ps_document.specs.Json.{text};
+
+    ghost json = { text };
+
+    fn from_json(alloc: Global, value: &Value) -> Result<Option<PlSmallStr>, AllocError> {
+        let Some(text) = text_of(value) else {
+            return Ok(None);
+        };
+        match PlSmallStr::from_str(alloc, text) {
+            Ok(text) => Ok(Some(text)),
+            Err(_) => Err(AllocError),
+        }
+    }
+}
+
+impl FromJson<Named> for ExprIR {
+    ghost use Rattle.ps_document.specs.Nodes.{named_json};
+
+    ghost json = { named_json };
+
+    fn from_json(alloc: Global, value: &Value) -> Result<Option<ExprIR>, AllocError> {
+        let Some((name, node)) = two(value) else {
+            return Ok(None);
+        };
+        let Some(node) = entry_of(node) else {
+            return Ok(None);
+        };
+        let name = PlSmallStr::from_json(alloc, name)?;
+        Ok(name.map(|name| ExprIR {
+            node,
+            output_name: OutputName::Alias(name),
+        }))
+    }
+}
+
+impl FromJson<Key> for ExprIR {
+    ghost use Rattle.ps_document.specs.Nodes.{key_json};
+
+    ghost json = { key_json };
+
+    fn from_json(alloc: Global, value: &Value) -> Result<Option<ExprIR>, AllocError> {
+        let Some(node) = entry_of(value) else {
+            return Ok(None);
+        };
+        Ok(Some(ExprIR {
+            node,
+            output_name: OutputName::ColumnLhs(PlSmallStr::empty(alloc)),
+        }))
+    }
+}
+
+/// The kind of an entry that is left out.
+pub fn left_out_of(value: &Value) -> Option<What>
+    ensures some { IfSome result (λ w. view value.now ≡ list (text (codes "left_out") ∷ text (what_name w) ∷ [])) }
+    ensures left_out { IfSome result (λ w. IsTrue (is_left_out_kind w)) }
+    ensures none { IfNone result ((w : What) → IsTrue (is_left_out_kind w) → view value.now ≢ list (text (codes "left_out") ∷ text (what_name w) ∷ [])) }
+{
+    let word = one_after(value, "left_out")?;
+    left_out_kind_of(text_of(word)?)
+}
