@@ -2,5 +2,6 @@ pub mod Agreement
 pub mod Evaluating
 pub mod KeptRows
 pub mod Parts
+pub mod Taking
 pub mod WholeOperands
 pub mod Zips

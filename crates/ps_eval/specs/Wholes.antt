@@ -1,8 +1,11 @@
 -- What takes whole columns.
-use Rattle.std.specs.Prelude.{◌≡◌, List, [], ◌∷◌, map, Option, Some, None}
+use Rattle.std.specs.Prelude.{◌≡◌, List, [], ◌∷◌, map, Option, Some, None, ℕ, ℤ, Bool}
 use Rattle.ps_eval.specs.Held.{Keeps, cells_of, first_fault, held_values, or_else}
 use Rattle.ps_eval.specs.declared.part.Part.{Part}
-use Rattle.ps_frame.specs.Causes.{Column}
+use Rattle.ps_frame.specs.Aggregates.{aggregate_column}
+use Rattle.ps_frame.specs.Causes.{Column, whole_column}
+use Rattle.ps_frame.specs.Eval.{at, no_slice, operand, picked, slice_column}
+use Rattle.ps_frame.specs.Sorting.{values_in_order}
 use Rattle.ps_frame.specs.Trees.{Aggregation}
 use Rattle.ps_frame.specs.declared.expr.FunctionExpr.{FunctionExpr}
 use Rattle.ps_frame.specs.declared.expr.FunctionExpr.TheVariants as fun
@@ -12,6 +15,7 @@ use Rattle.ps_frame.specs.declared.value.DataFault.{DataFault}
 use Rattle.ps_frame.specs.declared.value.DataType.{DataType}
 use Rattle.ps_frame.specs.declared.value.DataType.TheVariants as kind
 use Rattle.ps_frame.specs.declared.value.Value.{Value}
+use Rattle.ps_frame.specs.declared.value.Value.TheVariants as val
 use Rattle.pu_index.specs.declared.arena.Node.{Node}
 
 -- the values of a column
@@ -72,3 +76,30 @@ called_kind fun.Not k = kind.Boolean
 called_kind fun.IsNull k = kind.Boolean
 called_kind fun.IsNotNull k = kind.Boolean
 called_kind fun.Reverse k = k
+
+-- a sort, a gather and a slice of the values of whole columns
+abbrev pub sorts : Bool → Bool → List (List Value) → Column
+sorts descending nulls_last vs = whole_column (values_in_order (record { descending = descending; nulls_last = nulls_last }) (operand 0 vs))
+
+abbrev pub picked_column : ℕ → List Value → List Value → Column
+picked_column node values indices = record { cells = map (picked node values) indices; broken = []; lost = [] }
+
+abbrev pub gathers : ℕ → List (List Value) → Column
+gathers node vs = picked_column node (operand 0 vs) (operand 1 vs)
+
+abbrev pub slices : ℕ → List (List Value) → Column
+slices node vs = slice_column node (operand 0 vs) (at 0 (operand 1 vs)) (at 0 (operand 2 vs))
+
+-- the number of an Int64
+abbrev pub int_of : Value → Option ℤ
+int_of (val.Int64 z) = Some z
+int_of _ = None
+
+-- a slice by an offset and a length that may be there
+abbrev pub slice_of : ℕ → List Value → Option ℤ → Option ℤ → Column
+slice_of node vs (Some o) (Some l) = slice_column node vs (val.Int64 o) (val.Int64 l)
+slice_of node vs _ _ = no_slice node
+
+-- an aggregate of the values of a whole column of a kind
+abbrev pub aggregates : ℕ → Aggregation → DataType → List (List Value) → Column
+aggregates node a k vs = aggregate_column node a (Some k) (operand 0 vs)

@@ -1,8 +1,9 @@
 // The column of an expression while it is computed.
-ghost use Rattle.std.specs.Prelude.{◌≡◌, ◌<◌, ◌++◌, ◌∷◌, [], length, get_or, map, IfOk, OnOk, MatchResult, Some, None};
+ghost use Rattle.std.specs.Prelude.{◌≡◌, ◌<◌, drop, take, ◌++◌, ◌∷◌, [], length, get_or, map, IfOk, OnOk, MatchResult, Some, None};
 ghost use Rattle.ps_eval.specs.Held.{Keeps, Settles, cell_at, cells_of, ending_of, first_bad, first_fault, held_values, values_of};
 ghost use Rattle.ps_eval.specs.Rows.{repeats as repeats_in, seen as seen_cell};
 ghost use Rattle.ps_frame.specs.Causes.{whole_column};
+ghost use Rattle.ps_frame.specs.Eval.{values_between};
 ghost use Rattle.ps_frame.specs.declared.value.Cell.TheVariants as held;
 
 use crate::lengths::Ending;
@@ -35,6 +36,19 @@ impl Values {
         self.as_slice().len()
     }
 
+    /// The values from a place on, up to another one; shared ones stay shared.
+    ///
+    /// Fails only for want of memory.
+    pub fn between(&self, alloc: Global, from: usize, to: usize) -> Result<Values, AllocError>
+        ensures { IfOk result (λ part. values_of part ≡ values_between from to (values_of self.now)) }
+    {
+        let count = to.saturating_sub(from);
+        match self {
+            Values::Shared(column) => shared_slice(alloc, column, from, count),
+            Values::Owned(values) => Ok(Values::Owned(copy_slice(alloc, values.as_slice(), from, count)?)),
+        }
+    }
+
     /// Values of their own; shared ones are copied.
     pub fn into_vec(self, alloc: Global) -> Result<Vec<Value>, AllocError>
         ensures { IfOk result (λ values. values.items ≡ values_of self) }
@@ -44,6 +58,33 @@ impl Values {
             Values::Owned(values) => Ok(values),
         }
     }
+}
+
+fn shared_slice(
+    alloc: Global,
+    column: &Column,
+    from: usize,
+    count: usize,
+) -> Result<Values, AllocError>
+    ensures { IfOk result (λ part. values_of part ≡ take count (drop from column.now.values)) }
+{
+    match column.slice(alloc, from, count) {
+        Ok(column) => Ok(Values::Shared(column)),
+        Err(_) => Err(AllocError),
+    }
+}
+
+fn copy_slice(
+    alloc: Global,
+    values: &[Value],
+    from: usize,
+    count: usize,
+) -> Result<Vec<Value>, AllocError>
+    ensures { IfOk result (λ copies. copies.items ≡ take count (drop from values.now)) }
+{
+    let from = from.min(values.len());
+    let rest = &values[from..];
+    copy_all(alloc, &rest[..count.min(rest.len())])
 }
 
 /// An equal value. Fails only for want of memory.

@@ -1,14 +1,19 @@
 // What takes whole columns: where one has a fault there are no cells.
 ghost use Rattle.std.specs.Prelude.{◌≡◌, ◌∷◌, [], ℕ, IfOk, reverse};
 ghost use Rattle.ps_eval.specs.Held.{Keeps, values_of};
-ghost use Rattle.ps_eval.specs.Wholes.{IsOfWhole, called_kind};
+ghost use Rattle.ps_eval.specs.Wholes.{IsOfWhole, called_kind, gathers, int_of, picked_column, slice_of, slices, sorts};
 ghost use Rattle.ps_frame.specs.Causes.{Column as AColumn, whole_column};
-ghost use Rattle.ps_frame.specs.Eval.{function_column, operand};
+ghost use Rattle.ps_frame.specs.Sorting.{values_in_order};
+ghost use Rattle.ps_frame.specs.Eval.{at, function_column, operand, slice_column};
+
+ghost use Rattle.ps_frame.specs.declared.value.Value.TheVariants as val;
 
 use crate::elementwise::{Unary, unary_part};
-use crate::part::{Part, Values, ended_part, whole_part};
+use crate::part::{Cells, Part, Values, ended_part, whole_part};
+use ps_compute::order::{Direction, sorted_values};
+use ps_compute::selection::{gathered, slice_bounds};
 use ps_frame::expr::FunctionExpr;
-use ps_frame::value::DataType;
+use ps_frame::value::{DataFault, DataType, Value};
 use std::alloc::{AllocError, Global};
 
 /// The values in the opposite order.
@@ -48,4 +53,163 @@ pub fn function_part(alloc: Global, function: FunctionExpr, input: Part) -> Resu
         FunctionExpr::IsNotNull => unary_part(alloc, Unary::IsNotNull, &input),
         FunctionExpr::Reverse => reversed_part(alloc, input),
     }
+}
+
+/// The values in their stable order.
+///
+/// Fails only for want of memory.
+pub fn sorted_part(
+    alloc: Global,
+    descending: bool,
+    nulls_last: bool,
+    input: Part,
+) -> Result<Part, AllocError>
+    ensures kind { IfOk result (λ part. part.dtype ≡ input.dtype) }
+    ensures cells { IfOk result (λ part. IsOfWhole (sorts descending nulls_last) (input ∷ []) part) }
+{
+    let dtype = input.dtype;
+    let outcome = input.settled(alloc)?;
+    match outcome {
+        Ok(values) => sorted_whole(alloc, Direction::new(descending, nulls_last), dtype, values),
+        Err(fault) => Ok(ended_part(alloc, dtype, fault)),
+    }
+}
+
+fn sorted_whole(
+    alloc: Global,
+    direction: Direction,
+    dtype: DataType,
+    values: Values,
+) -> Result<Part, AllocError>
+    ensures kind { IfOk result (λ part. part.dtype ≡ dtype) }
+    ensures cells { IfOk result (λ part. Keeps part (whole_column (values_in_order direction (values_of values)))) }
+{
+    match sorted_values(alloc, direction, values.as_slice()) {
+        Ok(values) => Ok(whole_part(dtype, values)),
+        Err(_) => Err(AllocError),
+    }
+}
+
+/// The values at the places that indices name, null for a null index, and the fault `Gather` where
+/// there is no such place.
+///
+/// Fails only for want of memory.
+pub fn gathered_part(alloc: Global, input: Part, indices: Part) -> Result<Part, AllocError>
+    ensures kind { IfOk result (λ part. part.dtype ≡ input.dtype) }
+    ensures cells { IfOk result (λ part. (node : ℕ) → IsOfWhole (gathers node) (input ∷ indices ∷ []) part) }
+{
+    let dtype = input.dtype;
+    let input = input.settled(alloc)?;
+    let values = match input {
+        Ok(values) => values,
+        Err(fault) => return Ok(ended_part(alloc, dtype, fault)),
+    };
+    let indices = indices.settled(alloc)?;
+    match indices {
+        Ok(places) => gathered_cells(alloc, dtype, values.as_slice(), places.as_slice()),
+        Err(fault) => Ok(ended_part(alloc, dtype, fault)),
+    }
+}
+
+fn gathered_cells(
+    alloc: Global,
+    dtype: DataType,
+    values: &[Value],
+    indices: &[Value],
+) -> Result<Part, AllocError>
+    ensures kind { IfOk result (λ part. part.dtype ≡ dtype) }
+    ensures cells { IfOk result (λ part. (node : ℕ) → Keeps part (picked_column node values.now indices.now)) }
+{
+    match gathered(alloc, values, indices) {
+        Ok(cells) => Ok(Part {
+            dtype,
+            cells: Cells::Mixed(cells),
+            fault: None,
+        }),
+        Err(_) => Err(AllocError),
+    }
+}
+
+/// The values from an offset on, as many as a length says, or the fault `SliceBound` where one of
+/// them is null or the length is negative.
+///
+/// Fails only for want of memory.
+pub fn sliced_part(
+    alloc: Global,
+    input: Part,
+    offset: Part,
+    length: Part,
+) -> Result<Part, AllocError>
+    ensures kind { IfOk result (λ part. part.dtype ≡ input.dtype) }
+    ensures cells { IfOk result (λ part. (node : ℕ) → IsOfWhole (slices node) (input ∷ offset ∷ length ∷ []) part) }
+{
+    let dtype = input.dtype;
+    let input = input.settled(alloc)?;
+    let values = match input {
+        Ok(values) => values,
+        Err(fault) => return Ok(ended_part(alloc, dtype, fault)),
+    };
+    let offset = offset.settled(alloc)?;
+    let offsets = match offset {
+        Ok(offsets) => offsets,
+        Err(fault) => return Ok(ended_part(alloc, dtype, fault)),
+    };
+    let length = length.settled(alloc)?;
+    match length {
+        Ok(lengths) => {
+            let from = number_in(offsets.as_slice());
+            let count = number_in(lengths.as_slice());
+            sliced_values(alloc, dtype, &values, from, count)
+        }
+        Err(fault) => Ok(ended_part(alloc, dtype, fault)),
+    }
+}
+
+// The first value, if it is an `Int64`.
+fn number_in(values: &[Value]) -> Option<i64>
+    ensures { result ≡ int_of (at 0 values.now) }
+{
+    match values.first() {
+        Some(Value::Int64(z)) => Some(*z),
+        _ => None,
+    }
+}
+
+fn sliced_values(
+    alloc: Global,
+    dtype: DataType,
+    values: &Values,
+    offset: Option<i64>,
+    length: Option<i64>,
+) -> Result<Part, AllocError>
+    ensures kind { IfOk result (λ part. part.dtype ≡ dtype) }
+    ensures cells { IfOk result (λ part. (node : ℕ) → Keeps part (slice_of node (values_of values.now) offset length)) }
+{
+    match (offset, length) {
+        (Some(offset), Some(length)) => slice_whole(alloc, dtype, values, offset, length),
+        (None, _) => Ok(ended_part(alloc, dtype, DataFault::SliceBound)),
+        (Some(_), None) => Ok(ended_part(alloc, dtype, DataFault::SliceBound)),
+    }
+}
+
+fn slice_whole(
+    alloc: Global,
+    dtype: DataType,
+    values: &Values,
+    offset: i64,
+    length: i64,
+) -> Result<Part, AllocError>
+    ensures kind { IfOk result (λ part. part.dtype ≡ dtype) }
+    ensures cells { IfOk result (λ part. (node : ℕ) → Keeps part (slice_column node (values_of values.now) (val.Int64 offset) (val.Int64 length))) }
+{
+    if length < 0 {
+        return Ok(ended_part(alloc, dtype, DataFault::SliceBound));
+    }
+    let (from, to) = slice_bounds(values.len(), offset, length);
+    let values = values.between(alloc, from, to)?;
+    Ok(Part {
+        dtype,
+        cells: Cells::Whole(values),
+        fault: None,
+    })
 }

@@ -1,0 +1,19 @@
+use Rattle.std.proofs.Common.{subst}
+use Rattle.std.specs.Prelude.{Some}
+use Rattle.ps_eval.specs.Held.{Keeps}
+use Rattle.ps_frame.specs.Aggregates.{aggregate_column}
+use Rattle.std.proofs.lemmas.Result.{IfOk-weaker}
+use Rattle.ps_eval.specs.Wholes.{aggregates, aggregation_of}
+use Rattle.ps_eval.proofs.WholeOperands.{settled-err, settled-ok}
+use Rattle.ps_eval.proofs.aggregate.aggregated_part.Goals as goal
+
+pub returns-in-Ok-clause-cells : goal.returns-in-Ok-clause-cells
+returns-in-Ok-clause-cells c =
+    IfOk-weaker c.aggregate_of.result _ _
+    (λ q kept node. settled-ok (aggregates node (aggregation_of c.args.aggregate) c.args.input.dtype) c.args.input q _ c.in-Ok.values c.in_ok-outcome.ensures c.in-Ok.is
+    (subst (λ vs. Keeps q (aggregate_column node (aggregation_of c.args.aggregate) (Some c.args.input.dtype) vs)) c.as_slice.ensures (kept node)))
+    c.aggregate_of.ensures.cells
+
+pub returns-in-Err-clause-cells : goal.returns-in-Err-clause-cells
+returns-in-Err-clause-cells c = λ node.
+    settled-err (aggregates node (aggregation_of c.args.aggregate) c.args.input.dtype) c.args.input _ _ _ c.in_ok-outcome.ensures c.in-Err.is c.ended_part.ensures.cells c.ended_part.ensures.fault
