@@ -2,3 +2,5 @@ mod Lists
 mod FrameColumns
 mod CellColumns
 mod TenItems
+mod Members
+mod NoPlan

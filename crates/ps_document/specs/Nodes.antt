@@ -1,6 +1,7 @@
 -- The JSON of a node.
 use Rattle.std.specs.Prelude.{ℕ, ◌≡◌, ◌<◌, ◌^◌, List, [], ◌∷◌, codes, Some, None, IsTrue, FitsSigned, slice_get, ⊤}
 use Rattle.std.specs.Int.{w64}
+use Rattle.std.specs.declared.alloc.Global.{Global}
 use Rattle.serde_json.specs.Data.{Data}
 use Rattle.ps_frame.specs.Lines.{what_name}
 use Rattle.ps_frame.specs.Tables.{Frame}
@@ -24,13 +25,17 @@ key_json e = entry_number e.node
 abbrev pub cut_json : Cut → Data
 cut_json cut = or_null (λ s. list (whole_number s.0 ∷ count s.1 ∷ [])) cut
 
+-- names, where there are any
+abbrev pub names_json : Option (Vec (List ℕ) Global) → Data
+names_json names = or_null (λ ns. list_of text ns.items) names
+
 abbrev pub function_json : Data → FunctionIR → Data
 function_json input (call.RowIndex name offset) = list (text (codes "row_index") ∷ input ∷ text name ∷ or_null count offset ∷ [])
 function_json input (call.User n) = list (text (codes "map") ∷ input ∷ count n ∷ [])
 
 -- the JSON of a node, where `table` is the number of the table that a scan reads
 abbrev pub node_json : ℕ → IR → Data
-node_json table (entry.DataFrameScan df columns) = list (text (codes "scan") ∷ count table ∷ or_null (λ names. list_of text names.items) columns ∷ [])
+node_json table (entry.DataFrameScan df columns) = list (text (codes "scan") ∷ count table ∷ names_json columns ∷ [])
 node_json table (entry.SimpleProjection i columns) = list (text (codes "project") ∷ entry_number i ∷ list_of text columns.items ∷ [])
 node_json table (entry.Select i es) = list (text (codes "select") ∷ entry_number i ∷ list_of named_json es.items ∷ [])
 node_json table (entry.HStack i es) = list (text (codes "hstack") ∷ entry_number i ∷ list_of named_json es.items ∷ [])
@@ -49,7 +54,7 @@ node_json table (entry.Join l r left_on right_on args) =
     list (text (codes "join") ∷ entry_number l ∷ entry_number r ∷ text (join_word args.how) ∷ list_of key_json left_on.items ∷ list_of key_json right_on.items
     ∷ or_null text args.suffix ∷ truth args.join_nulls ∷ text (validation_word args.validation) ∷ cut_json args.slice ∷ [])
 node_json table (entry.Distinct i o) =
-    list (text (codes "distinct") ∷ entry_number i ∷ or_null (λ names. list_of text names.items) o.subset ∷ truth o.maintain_order ∷ text (keep_word o.keep_strategy) ∷ cut_json o.slice ∷ [])
+    list (text (codes "distinct") ∷ entry_number i ∷ names_json o.subset ∷ truth o.maintain_order ∷ text (keep_word o.keep_strategy) ∷ cut_json o.slice ∷ [])
 node_json table (entry.LeftOut w) = list (text (codes "left_out") ∷ text (what_name w) ∷ [])
 
 -- an offset of a slice has 64 bits with a sign
@@ -58,9 +63,13 @@ CutFits None = ⊤
 CutFits (Some s) = FitsSigned w64 s.0
 
 -- the offset of a row index has 32 bits
+abbrev pub OffsetFits : Option ℕ → Type 0
+OffsetFits None = ⊤
+OffsetFits (Some n) = n < 2 ^ 32
+
 abbrev pub CallFits : FunctionIR → Type 0
-CallFits (call.RowIndex name (Some n)) = n < 2 ^ 32
-CallFits _ = ⊤
+CallFits (call.RowIndex name offset) = OffsetFits offset
+CallFits (call.User n) = ⊤
 
 -- a scan reads the table of that number; offsets fit their widths; only kinds that are left out stand as such
 abbrev pub CanStand : List Frame → ℕ → IR → Type 0

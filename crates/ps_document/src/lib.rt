@@ -1,9 +1,14 @@
 // Documents of tables and a plan: their JSON, and the arenas that they hold.
 #![tactic(auto)]
 
-pub mod exprs;
-pub mod json;
-pub mod parts;
-pub mod tables;
-pub mod taking;
-pub mod words;
+pub mod document;
+mod exprs;
+mod json;
+mod nodes;
+mod options;
+mod parts;
+mod tables;
+mod taking;
+#[cfg(test)]
+mod tests;
+mod words;

@@ -1,0 +1,186 @@
+// Documents, read into arenas.
+ghost use Rattle.std.specs.Prelude.{◌≡◌, ◌≢◌, ◌↔◌, ℕ, List, IsTrue, Err, IfOk, IfSome, IfNone, codes};
+ghost use Rattle.serde_json.specs.Data.{Data, Members as JsonMembers, member, no_members, object};
+ghost use Rattle.serde_json.specs.View.{members_view, view};
+ghost use Rattle.ps_frame.specs.Tables.{Frame};
+ghost use Rattle.ps_plan.specs.Plans.{Plan};
+ghost use Rattle.ps_document.specs.Document.{IsDocument, IsDocumentOf, IsJson, IsPlanJson};
+ghost use Rattle.ps_document.specs.Json.{four_members};
+
+use crate::json::entry_of;
+use crate::taking::take_list;
+use ps_frame::expr::AExpr;
+use ps_frame::frame::DataFrame;
+use ps_plan::ir::IR;
+use pu_index::{Arena, Node};
+use serde_json::{Map, Value};
+use std::alloc::{AllocError, Global};
+
+/// The plan of a document. The scanned tables stand in its nodes.
+#[derive(Drop)]
+pub struct Document {
+    pub nodes: Arena<IR>,
+    pub exprs: Arena<AExpr>,
+    pub root: Node,
+}
+
+/// Why bytes are not read as a document.
+#[derive(Clone, Copy, Debug, PartialEq, Eq)]
+pub enum DocumentError {
+    /// They are no JSON text.
+    BadJson,
+    /// They are a JSON text, and no document.
+    BadDocument,
+    /// There is not enough memory.
+    OutOfMemory,
+}
+
+/// Reads a document. The bytes are let go once their JSON stands, and the JSON on the way.
+///
+/// Each error but `OutOfMemory` comes only for its reason. A table of more than 2^32 - 1 rows is out
+/// of memory too.
+pub fn read_document(alloc: Global, bytes: Vec<u8>) -> Result<Document, DocumentError>
+    ensures document { IfOk result (λ d. IsDocumentOf (record { nodes = d.nodes; exprs = d.exprs; root = d.root }) bytes.items) }
+    ensures bad_json { result ≡ Err DocumentError.BadJson → IsJson bytes.items → ⊥ }
+    ensures json { result ≡ Err DocumentError.BadDocument → IsJson bytes.items }
+    ensures bad_document { result ≡ Err DocumentError.BadDocument → IsDocument bytes.items → ⊥ }
+{
+    match Value::from_slice(alloc, bytes.as_slice()) {
+        Ok(value) => {
+            drop(bytes);
+            document_of(alloc, value)
+        }
+        Err(error) if error.is_memory() => Err(DocumentError::OutOfMemory),
+        Err(_) => Err(DocumentError::BadJson),
+    }
+}
+
+/// The document that a value is.
+fn document_of(alloc: Global, value: Value) -> Result<Document, DocumentError>
+    ensures document { IfOk result (λ d. (tables : List Frame) × IsPlanJson tables (record { nodes = d.nodes; exprs = d.exprs; root = d.root }) (view value)) }
+    ensures json { result ≢ Err DocumentError.BadJson }
+    ensures none { result ≡ Err DocumentError.BadDocument → (tables : List Frame) (plan : Plan) → IsPlanJson tables plan (view value) → ⊥ }
+{
+    let Some(members) = members_of(value) else {
+        return Err(DocumentError::BadDocument);
+    };
+    match plan_of(alloc, members) {
+        Ok(Some(document)) => Ok(document),
+        Ok(None) => Err(DocumentError::BadDocument),
+        Err(_) => Err(DocumentError::OutOfMemory),
+    }
+}
+
+/// The values of a document's members.
+#[derive(Drop)]
+struct Members {
+    tables: Value,
+    exprs: Value,
+    nodes: Value,
+    root: Value,
+}
+
+/// The plan of a document's members.
+///
+/// Fails only for want of memory.
+fn plan_of(alloc: Global, members: Members) -> Result<Option<Document>, AllocError>
+    ensures some { IfOk result (λ o. IfSome o (λ d. (tables : List Frame) × IsPlanJson tables (record { nodes = d.nodes; exprs = d.exprs; root = d.root }) (four_members (view members.tables) (view members.exprs) (view members.nodes) (view members.root)))) }
+    ensures none { IfOk result (λ o. IfNone o ((tables : List Frame) (plan : Plan) → IsPlanJson tables plan (four_members (view members.tables) (view members.exprs) (view members.nodes) (view members.root)) → ⊥)) }
+{
+    let Members {
+        tables,
+        exprs,
+        nodes,
+        root,
+    } = members;
+    let Some(root) = entry_of(&root) else {
+        return Ok(None);
+    };
+    let Some(tables) = take_list::<(), DataFrame>(alloc, &(), tables)? else {
+        return Ok(None);
+    };
+    let Some(exprs) = take_list::<(), AExpr>(alloc, &(), exprs)? else {
+        return Ok(None);
+    };
+    let Some(nodes) = take_list::<Vec<DataFrame>, IR>(alloc, &tables, nodes)? else {
+        return Ok(None);
+    };
+    let exprs = arena_of(alloc, exprs)?;
+    let nodes = arena_of(alloc, nodes)?;
+    Ok(Some(Document { nodes, exprs, root }))
+}
+
+/// The arena of a list of entries.
+///
+/// Fails only for want of memory.
+fn arena_of<T: Drop>(alloc: Global, items: Vec<T>) -> Result<Arena<T>, AllocError>
+    ensures { IfOk result (λ arena. arena ≡ items.items) }
+{
+    let Ok(mut arena) = Arena::with_capacity(alloc, items.len()) else {
+        return Err(AllocError);
+    };
+    for item in items {
+        let Ok(_) = arena.add(item) else {
+            return Err(AllocError);
+        };
+    }
+    Ok(arena)
+}
+
+/// The members of a document, where a value is an object of just these.
+fn members_of(value: Value) -> Option<Members>
+    ensures some { IfSome result (λ m. view value ≡ four_members (view m.tables) (view m.exprs) (view m.nodes) (view m.root)) }
+    ensures none { IfNone result ((tables exprs nodes root : Data) → view value ≢ four_members tables exprs nodes root) }
+{
+    match value {
+        Value::Object(members) => take_members(members),
+        _ => None,
+    }
+}
+
+fn take_members(mut members: Map<String, Value>) -> Option<Members>
+    ensures some { IfSome result (λ m. object (members_view members.entries) ≡ four_members (view m.tables) (view m.exprs) (view m.nodes) (view m.root)) }
+    ensures none { IfNone result ((tables exprs nodes root : Data) → object (members_view members.entries) ≢ four_members tables exprs nodes root) }
+{
+    let (exprs, nodes) = take_two(&mut members, "exprs", "nodes")?;
+    let (root, tables) = take_two(&mut members, "root", "tables")?;
+    if has_no_members(&members) {
+        Some(Members {
+            tables,
+            exprs,
+            nodes,
+            root,
+        })
+    } else {
+        None
+    }
+}
+
+fn has_no_members(members: &Map<String, Value>) -> bool
+    ensures { IsTrue result ↔ (members_view members.now.entries ≡ no_members) }
+{
+    members.is_empty()
+}
+
+/// The values of the first two members, where they have the names. They are then gone.
+fn take_two(members: &mut Map<String, Value>, first: &str, second: &str) -> Option<(Value, Value)>
+    ensures some { IfSome result (λ t. members_view members.old.entries ≡ member first.now (view t.0) (member second.now (view t.1) (members_view members.new.entries))) }
+    ensures none { IfNone result ((d e : Data) (rest : JsonMembers) → members_view members.old.entries ≢ member first.now d (member second.now e rest)) }
+{
+    let a = take_member(members, first)?;
+    let b = take_member(members, second)?;
+    Some((a, b))
+}
+
+/// The value of the first member, where it has the name. The member is then gone.
+fn take_member(members: &mut Map<String, Value>, name: &str) -> Option<Value>
+    ensures some { IfSome result (λ v. members_view members.old.entries ≡ member name.now (view v) (members_view members.new.entries)) }
+    ensures none { IfNone result ((d : Data) (rest : JsonMembers) → members_view members.old.entries ≢ member name.now d rest) }
+{
+    let (key, value) = members.pop_first()?;
+    if key.as_str() == name {
+        Some(value)
+    } else {
+        None
+    }
+}

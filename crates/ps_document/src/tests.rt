@@ -1,0 +1,177 @@
+// Documents as a caller hands them in.
+use crate::document::{Document, DocumentError, read_document};
+use ps_plan::ir::IR;
+use std::alloc::Global;
+use std::test::Fail;
+
+/// Each form of a column, an expression and a node.
+const EVERY_FORM: &str = r#"{
+    "tables": [
+        [
+            ["a", "int", [1, null, -9223372036854775808]], ["b", "bool", [true, false, null]],
+            ["c", "idx", [0, 4294967295, null]], ["d", "str", ["x", "", null]]
+        ],
+        []
+    ],
+    "exprs": [
+        ["col", "a"], ["null", "str"], ["bool", true], ["int", -5], ["idx", 4294967295], ["str", "x"],
+        ["eq", 0, 3], ["ne", 0, 3], ["lt", 0, 3], ["le", 0, 3], ["gt", 0, 3], ["ge", 0, 3],
+        ["add", 0, 3], ["sub", 0, 3], ["mul", 0, 3], ["floordiv", 0, 3], ["mod", 0, 3],
+        ["and", 2, 2], ["or", 2, 2], ["cast", 0, "idx", false], ["sort", 0, true, false],
+        ["sort_by", 0, [0, 3], [true, false], [false, false]], ["gather", 0, 4, true],
+        ["filter", 0, 2], ["slice", 0, 3, 3], ["ternary", 2, 0, 0], ["min", 0], ["max", 0],
+        ["first", 0], ["last", 0], ["sum", 0], ["n_unique", 0], ["count", 0, true], ["not", 2],
+        ["is_null", 0], ["is_not_null", 0], ["reverse", 0], ["len"], ["left_out", "Window"]
+    ],
+    "nodes": [
+        ["scan", 0, null], ["scan", 1, ["a"]], ["project", 0, ["a"]], ["select", 0, [["b", 0]]],
+        ["hstack", 0, [["b", 0]]], ["filter", 0, 2], ["slice", 0, -2, 18446744073709551615],
+        ["sink", 0], ["file_sink", 0], ["row_index", 0, "i", null], ["row_index", 0, "i", 7],
+        ["map", 0, 3], ["sort", 0, [0], [true], [false], [0, 5]], ["union", [0, 1], null],
+        ["hconcat", [0, 1]], ["cache", 0, 9], ["group_by", 0, [["a", 0]], [["n", 37]], true, null],
+        ["join", 0, 1, "left", [0], [0], "_r", false, "m:1", [1, 2]],
+        ["distinct", 0, ["a"], true, "last", null], ["distinct", 0, null, false, "none", null],
+        ["left_out", "Scan"]
+    ],
+    "root": 18446744073709551615
+}"#;
+
+fn read(alloc: Global, document: &str) -> Result<Result<Document, DocumentError>, Fail> {
+    let bytes = Vec::from_slice(alloc, document.as_bytes())?;
+    Ok(read_document(alloc, bytes))
+}
+
+/// What a document is taken for.
+fn verdict(alloc: Global, document: &str) -> Result<&'static str, Fail> {
+    Ok(match read(alloc, document)? {
+        Ok(_) => "document",
+        Err(DocumentError::BadJson) => "bad JSON",
+        Err(DocumentError::BadDocument) => "bad document",
+        Err(DocumentError::OutOfMemory) => "out of memory",
+    })
+}
+
+/// What a document of one table is taken for.
+fn of_table(alloc: Global, table: &str) -> Result<&'static str, Fail> {
+    let document = format!(in alloc;
+        "{{\"tables\":[{table}],\"exprs\":[],\"nodes\":[],\"root\":0}}"
+    )?;
+    verdict(alloc, document.as_str())
+}
+
+/// What a document of one node over one table is taken for.
+fn of_node(alloc: Global, node: &str) -> Result<&'static str, Fail> {
+    let document = format!(in alloc;
+        "{{\"tables\":[[]],\"exprs\":[],\"nodes\":[{node}],\"root\":0}}"
+    )?;
+    verdict(alloc, document.as_str())
+}
+
+#[test]
+fn each_form_is_read(rt: HostRuntime) -> Result<(), Fail> {
+    let Ok(document) = read(rt.alloc(), EVERY_FORM)? else {
+        return Err(Fail::from("no document"));
+    };
+    assert_eq!(rt; document.exprs.len(), 39);
+    assert_eq!(rt; document.nodes.len(), 21);
+    assert_eq!(rt; document.root.0, usize::MAX);
+    Ok(())
+}
+
+#[test]
+fn a_scan_holds_its_table(rt: HostRuntime) -> Result<(), Fail> {
+    let Ok(mut document) = read(rt.alloc(), EVERY_FORM)? else {
+        return Err(Fail::from("no document"));
+    };
+    let mut heights = Vec::new(rt.alloc());
+    while let Some(node) = document.nodes.pop() {
+        if let IR::DataFrameScan { df, projection: _ } = node {
+            heights.push((df.schema().len(), df.height()))?;
+        }
+    }
+    assert_eq!(rt; heights.as_slice(), [(0, 0), (4, 3)].as_slice());
+    Ok(())
+}
+
+#[test]
+fn numbers_are_whole_and_in_range(rt: HostRuntime) -> Result<(), Fail> {
+    let alloc = rt.alloc();
+    assert_eq!(rt;
+        of_table(alloc, r#"[["a","int",[9223372036854775807]]]"#)?,
+        "document"
+    );
+    assert_eq!(rt;
+        of_table(alloc, r#"[["a","int",[9223372036854775808]]]"#)?,
+        "bad document"
+    );
+    assert_eq!(rt;
+        of_table(alloc, r#"[["a","int",[-9223372036854775809]]]"#)?,
+        "bad document"
+    );
+    assert_eq!(rt;
+        of_table(alloc, r#"[["a","int",[1,-0,3]]]"#)?,
+        "bad document"
+    );
+    assert_eq!(rt; of_table(alloc, r#"[["a","int",[1.5]]]"#)?, "bad document");
+    assert_eq!(rt; of_table(alloc, r#"[["a","int",[1e400]]]"#)?, "bad JSON");
+    assert_eq!(rt;
+        of_table(alloc, r#"[["a","idx",[4294967296]]]"#)?,
+        "bad document"
+    );
+    assert_eq!(rt;
+        of_node(alloc, r#"["sink",18446744073709551616]"#)?,
+        "bad document"
+    );
+    assert_eq!(rt; of_node(alloc, r#"["sink",-1]"#)?, "bad document");
+    Ok(())
+}
+
+#[test]
+fn tables_have_columns_that_fit(rt: HostRuntime) -> Result<(), Fail> {
+    let alloc = rt.alloc();
+    assert_eq!(rt;
+        of_table(alloc, r#"[["a","int",[]],["a","str",[]]]"#)?,
+        "bad document"
+    );
+    assert_eq!(rt;
+        of_table(alloc, r#"[["a","int",[1]],["b","str",[]]]"#)?,
+        "bad document"
+    );
+    assert_eq!(rt; of_table(alloc, r#"[["a","int",["1"]]]"#)?, "bad document");
+    assert_eq!(rt; of_node(alloc, r#"["scan",0,null]"#)?, "document");
+    assert_eq!(rt; of_node(alloc, r#"["scan",1,null]"#)?, "bad document");
+    assert_eq!(rt;
+        of_node(alloc, r#"["left_out","NoColumns"]"#)?,
+        "bad document"
+    );
+    Ok(())
+}
+
+#[test]
+fn members_are_just_the_four(rt: HostRuntime) -> Result<(), Fail> {
+    let alloc = rt.alloc();
+    assert_eq!(rt;
+        verdict(alloc, r#"{"root":0,"nodes":[],"exprs":[],"tables":[]}"#)?,
+        "document"
+    );
+    assert_eq!(rt;
+        verdict(alloc, r#"{"nodes":[],"exprs":[],"tables":[]}"#)?,
+        "bad document"
+    );
+    assert_eq!(rt;
+        verdict(
+            alloc,
+            r#"{"more":0,"root":0,"nodes":[],"exprs":[],"tables":[]}"#
+        )?,
+        "bad document"
+    );
+    assert_eq!(rt;
+        verdict(
+            alloc,
+            r#"{"root":-1,"nodes":[],"exprs":[],"tables":[],"root":0}"#
+        )?,
+        "document"
+    );
+    assert_eq!(rt; verdict(alloc, r#"{"root":0"#)?, "bad JSON");
+    Ok(())
+}
