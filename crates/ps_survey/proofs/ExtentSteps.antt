@@ -46,6 +46,7 @@ module _ (d s : ℕ → ℕ) (order : List ℕ) (i : ℕ) (h : i < length order)
     where
       here : n ≡ get_or order i 0 → HasExtent (set table (get_or order i 0) e) n (d n) (s n)
       here q = subst (λ m. HasExtent (set table (get_or order i 0) e) m (d m) (s m)) (sym q) (e, slice_get-set_same table (get_or order i 0) e within, is)
+
       by : (n ≡ get_or order i 0) ⊎ (n ≢ get_or order i 0) → Contains (take i order) n ⊎ (get_or order i 0 ≡ n) → HasExtent (set table (get_or order i 0) e) n (d n) (s n)
       by (inl q) _ = here q
       by (inr ne) (inl c) = let a = all n c in (a.0, slice_get-set_other table (get_or order i 0) n e ne ∙ a.1, a.2)

@@ -10,3 +10,5 @@ pub mod PlanTrees
 pub mod NoCircles
 pub mod ExtentSteps
 pub mod LimitLemmas
+pub mod Pigeons
+pub mod SurveyLemmas

@@ -29,6 +29,7 @@ within-limits d s x is h = (deep d x.depth is.0 (λ l. h (inl l)), large s x.siz
   where
     deep : (a b : ℕ) → b ≡ min a 257 → ¬ (256 < b) → a ≤ 256
     deep a b e h = omega (arith, e, h)
+
     large : (a b : ℕ) → b ≡ min a 65537 → ¬ (65536 < b) → a ≤ 65536
     large a b e h = omega (arith, e, h)
 

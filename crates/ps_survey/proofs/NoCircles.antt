@@ -54,7 +54,7 @@ module _ (plan : Plan) (nodes exprs : List ℕ) (n-order : IsNodeOrder plan node
   has-no-circle n c =
       record {
         nodes = λ m way. no-circle (inputs_at plan) nodes n-order.once n-order.first m (nodes-in n m c way);
-        exprs = λ m e way names. no-circle (operands_at plan) exprs e-order.once e-order.first e (exprs-in m e (nodes-in n m c way) names)
+        exprs = λ m e way names. no-circle (operands_at plan) exprs e-order.once e-order.first e (exprs-in m e (nodes-in n m c way) names);
       }
 
   pub is-in-range : (n : ℕ) → Contains nodes n → IsInRange plan n

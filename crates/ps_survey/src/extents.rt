@@ -77,7 +77,12 @@ fn extent_at(table: &[Extent], number: usize) -> Extent
 }
 
 /// The extent of all that a number names, by a table of extents.
-pub fn extent_below<N: Names, L: Ledger>(names: &N, number: usize, table: &[Extent], steps: &mut Steps<L>) -> Extent
+pub fn extent_below<N: Names, L: Ledger>(
+    names: &N,
+    number: usize,
+    table: &[Extent],
+    steps: &mut Steps<L>,
+) -> Extent
     requires number { number < N.count names.now }
     requires known { (m : ℕ) → Contains (N.named names.now number) m → m < length table.now }
     ensures below { (d s : ℕ → ℕ) → ((m : ℕ) → Contains (N.named names.now number) m → HasExtent table.now m (d m) (s m)) → IsExtent (largest d (N.named names.now number)) (sum_by s (N.named names.now number)) result }
@@ -94,7 +99,12 @@ pub fn extent_below<N: Names, L: Ledger>(names: &N, number: usize, table: &[Exte
 }
 
 /// A table of the extents of expressions, which stand after what they name.
-pub fn expr_extents<L: Ledger>(alloc: Global, order: &[usize], exprs: &Arena<AExpr>, steps: &mut Steps<L>) -> PolarsResult<Vec<Extent>>
+pub fn expr_extents<L: Ledger>(
+    alloc: Global,
+    order: &[usize],
+    exprs: &Arena<AExpr>,
+    steps: &mut Steps<L>,
+) -> PolarsResult<Vec<Extent>>
     requires complete { (e : ℕ) → Contains order.now e → IsExpression exprs.now (record { 0 = e }) }
     requires first { NamedFirst (operands_in exprs.now) order.now }
     ensures size { IfOk result (λ table. length table.items ≡ length exprs.now) }

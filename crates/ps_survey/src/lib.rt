@@ -1,8 +1,13 @@
-//! A walk over a plan's arenas, which finds what the arenas decide.
+//! The survey of a plan: a walk over its arenas, which finds what these decide.
 #![tactic(auto)]
 
-pub mod extents;
-pub mod limits;
-pub mod names;
-pub mod orders;
-pub mod search;
+mod extents;
+mod limits;
+mod names;
+mod orders;
+mod search;
+pub mod survey;
+#[cfg(test)]
+mod tests;
+
+pub use survey::{Survey, flaws_are_refused, survey_plan};

@@ -20,7 +20,13 @@ use std::alloc::Global;
 use std::sync::ledger::Ledger;
 
 /// The extent of a node, by those of its inputs and of its expressions.
-fn node_extent<L: Ledger>(node: usize, inputs: &[Extent], own: &[Extent], nodes: &Arena<IR>, steps: &mut Steps<L>) -> Extent
+fn node_extent<L: Ledger>(
+    node: usize,
+    inputs: &[Extent],
+    own: &[Extent],
+    nodes: &Arena<IR>,
+    steps: &mut Steps<L>,
+) -> Extent
     requires node { node < length nodes.now }
     requires inputs { (m : ℕ) → Contains (inputs_in nodes.now node) m → m < length inputs.now }
     requires own { (e : ℕ) → Contains (exprs_in nodes.now node) e → e < length own.now }
@@ -33,7 +39,14 @@ fn node_extent<L: Ledger>(node: usize, inputs: &[Extent], own: &[Extent], nodes:
 }
 
 /// Holds the nodes, which stand after what they name, against the limits.
-pub fn check_limits<L: Ledger>(alloc: Global, order: &[usize], own: &[Extent], nodes: &Arena<IR>, exprs: &Arena<AExpr>, steps: &mut Steps<L>) -> PolarsResult<()>
+pub fn check_limits<L: Ledger>(
+    alloc: Global,
+    order: &[usize],
+    own: &[Extent],
+    nodes: &Arena<IR>,
+    exprs: &Arena<AExpr>,
+    steps: &mut Steps<L>,
+) -> PolarsResult<()>
     requires complete { (n : ℕ) → Contains order.now n → IsPlan nodes.now exprs.now (record { 0 = n }) }
     requires first { NamedFirst (inputs_in nodes.now) order.now }
     requires own { (n e : ℕ) → Contains order.now n → Contains (exprs_in nodes.now n) e → HasExtent own.now e (expr_depth exprs.now e) (expr_size exprs.now e) }

@@ -50,7 +50,7 @@ loop-expr-preserved g c =
     record {
       size = length-set table e c.above.result ∙ s;
       extents = table-more (expr_depth exprs) (expr_size exprs) order i h table c.above.result (omega (arith, l, s)) is c.loop-expr.invariant.extents;
-      looks = omega (arith, a, t, b, was)
+      looks = omega (arith, a, t, b, was);
     }
 
 pub returns-clause-extents : goal.returns-clause-extents

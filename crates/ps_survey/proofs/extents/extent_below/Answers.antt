@@ -1,5 +1,7 @@
-use Rattle.std.proofs.Common.{◌≡◌, ◌+◌, ◌≤◌, length, sym, arith}
+use Rattle.std.proofs.Common.{◌≡◌, ◌+◌, ◌≤◌, length, take, sym, arith}
 use Rattle.std.proofs.lemmas.Option.{slice_get_within}
+use Rattle.std.specs.Prelude.{Some, slice_get, sum_by}
+use Rattle.ps_survey.specs.Extents.{largest}
 use Rattle.ps_survey.proofs.Lists.{from-at, length-from_none}
 use Rattle.ps_survey.proofs.ExtentSteps.{extent-all, extent-more, found-extent}
 use Rattle.ps_survey.proofs.extents.extent_below.Goals as goal
@@ -13,7 +15,7 @@ loop-named-smaller g c = let l = slice_get_within (g.N.Names.named c.args.names.
 pub loop-named-preserved : goal.loop-named-preserved
 loop-named-preserved g c =
     let names = g.N.Names.named c.args.names.now c.args.number in
-    let at = sym c.in-Some.ensures.name in
+    let at : slice_get names c.loop-named.place ≡ Some c.in-Some.named = sym c.in-Some.ensures.name in
     let l = slice_get_within names c.loop-named.place c.in-Some.named at in
     let t = c.tick.ensures in
     let was = c.loop-named.invariant.looks in
@@ -21,9 +23,9 @@ loop-named-preserved g c =
       within = omega (arith, l);
       below = λ d s known.
           extent-more d s names c.loop-named.place c.in-Some.named c.beside-below.result at
-          (c.beside-below.ensures _ _ _ _ (c.loop-named.invariant.below d s known)
+          (c.beside-below.ensures (largest d (take c.loop-named.place names)) (sum_by s (take c.loop-named.place names)) (d c.in-Some.named) (s c.in-Some.named) (c.loop-named.invariant.below d s known)
           (found-extent c.args.table.now c.in-Some.named (d c.in-Some.named) (s c.in-Some.named) c.extent_at.result c.extent_at.ensures (known c.in-Some.named (from-at names c.loop-named.place c.in-Some.named at))));
-      looks = omega (arith, t, was)
+      looks = omega (arith, t, was);
     }
 
 pub returns-clause-below : goal.returns-clause-below

@@ -43,7 +43,7 @@ returns-then-is_past_limits-clause-flaw g c = λ root reached clear.
     let n = get_or order i 0 in
     let complete = c.requires.complete n (among order i h) in
     let inputs : (m : ℕ) → Contains (inputs_in nodes n) m → HasExtent c.deref.result.now m (node_depth nodes exprs m) (node_size nodes exprs m) = λ m b.
-        subst (λ t. HasExtent t m (node_depth nodes exprs m) (node_size nodes exprs m)) (sym c.deref.ensures.value) (c.loop-node.invariant.extents m (named-before (inputs_in nodes) order i h c.requires.first m b)) in
+    subst (λ t. HasExtent t m (node_depth nodes exprs m) (node_size nodes exprs m)) (sym c.deref.ensures.value) (c.loop-node.invariant.extents m (named-before (inputs_in nodes) order i h c.requires.first m b)) in
     let below = c.node_extent-extent.ensures.extent (node_depth nodes exprs) (node_size nodes exprs) (expr_depth exprs) (expr_size exprs) inputs (λ e b. c.requires.own n e (among order i h) b) in
     let is = node-extent nodes exprs n complete c.node_extent-extent.result below in
     past-limits (plan_of root nodes exprs) n c.node_extent-extent.result (reached n (among order i h)) (clear n (among order i h)) is (c.is_past_limits.ensures.0 c.if-is_past_limits.true)
@@ -75,7 +75,7 @@ loop-node-preserved g c =
     let n = get_or order i 0 in
     let complete = c.requires.complete n (among order i h) in
     let inputs : (m : ℕ) → Contains (inputs_in nodes n) m → HasExtent c.deref.result.now m (node_depth nodes exprs m) (node_size nodes exprs m) = λ m b.
-        subst (λ t. HasExtent t m (node_depth nodes exprs m) (node_size nodes exprs m)) (sym c.deref.ensures.value) (c.loop-node.invariant.extents m (named-before (inputs_in nodes) order i h c.requires.first m b)) in
+    subst (λ t. HasExtent t m (node_depth nodes exprs m) (node_size nodes exprs m)) (sym c.deref.ensures.value) (c.loop-node.invariant.extents m (named-before (inputs_in nodes) order i h c.requires.first m b)) in
     let below = c.node_extent-extent.ensures.extent (node_depth nodes exprs) (node_size nodes exprs) (expr_depth exprs) (expr_size exprs) inputs (λ e b. c.requires.own n e (among order i h) b) in
     let is = node-extent nodes exprs n complete c.node_extent-extent.result below in
     let l = IsPlan-in_range nodes exprs (record { 0 = n }) complete in
@@ -89,7 +89,7 @@ loop-node-preserved g c =
       size = length-set table n c.node_extent-extent.result ∙ s;
       extents = table-more (node_depth nodes exprs) (node_size nodes exprs) order i h table c.node_extent-extent.result (omega (arith, l, s)) is c.loop-node.invariant.extents;
       within = within-more (λ m. IsWithinLimits (node_depth nodes exprs m) (node_size nodes exprs m)) order i h fine c.loop-node.invariant.within;
-      looks = omega (arith, a, t, b, was)
+      looks = omega (arith, a, t, b, was);
     }
 
 pub returns-clause-within : goal.returns-clause-within
