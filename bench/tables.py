@@ -1,8 +1,9 @@
-"""python3 bench/tables.py TABLE_BENCH PLAN_TOOL [ROWS]: processor seconds and peak memory of the calls on a table of whole numbers, ids and
-texts of 8 letters (1,000,000 rows if not given), and of its CSV text: a document is read, filtered so that each row stays, and
-written; or read and refused, which is about the share of reading the JSON.
+"""python3 bench/tables.py TABLE_BENCH PLAN_TOOL [ROWS]: processor seconds and peak memory of the calls on a table of whole
+numbers, ids and texts of 8 letters (1,000,000 rows if not given), and of its CSV text.
 
-Seconds are those of one call where there is one: the program is run with the call done TIMES times and not at all, and the difference is divided."""
+The seconds of a call: the program is run with the call done TIMES times and not at all, and the difference is divided. The
+peak is that of a run with one call. For CSV text a document is read, filtered so that each row stays, and written; or read and
+refused, which is about the share of reading the JSON."""
 import os
 import random
 import string
@@ -61,7 +62,8 @@ def main():
     built, memory = measure([bench, 'build', str(rows), '0'])
     show('build', built, memory)
     for work, times in TIMES.items():
-        seconds, memory = measure([bench, work, str(rows), str(times)])
+        seconds, _ = measure([bench, work, str(rows), str(times)])
+        _, memory = measure([bench, work, str(rows), '1'])
         show(work, max(seconds - built, 0) / times, memory)
     for name, root in (('csv, answered', 2), ('csv, refused', 3)):
         with tempfile.TemporaryFile() as file:
