@@ -35,7 +35,7 @@ pair q us vs e f p r = ap (λ x. x && f) p ∙ ap (λ x. not (list_any q us) && 
 
 -- a test fails at each part exactly where none passes it
 mutual
-  none-passes : (q : Tree → Bool) (t : Tree) → every_part (λ p. not (q p)) t ≡ not (some_part q t)
+  pub none-passes : (q : Tree → Bool) (t : Tree) → every_part (λ p. not (q p)) t ≡ not (some_part q t)
   none-passes q (Tree.column name) = node-none (q (Tree.column name))
   none-passes q (Tree.literal l) = node-none (q (Tree.literal l))
   none-passes q (Tree.binary o l r) = node-one (q (Tree.binary o l r)) _ _ (pair q (tree_parts l) (tree_parts r) _ _ (none-passes q l) (none-passes q r))
@@ -57,7 +57,7 @@ mutual
   none-passes-all q (Trees.tree t ts) = pair q (tree_parts t) (trees_parts ts) _ _ (none-passes q t) (none-passes-all q ts)
 
 -- what one test passes another one does
-any-weaker : (f q : Tree → Bool) (ts : List Tree) → ((x : Tree) → f x ≡ true → q x ≡ true) → list_any f ts ≡ true → list_any q ts ≡ true
+pub any-weaker : (f q : Tree → Bool) (ts : List Tree) → ((x : Tree) → f x ≡ true → q x ≡ true) → list_any f ts ≡ true → list_any q ts ≡ true
 any-weaker f q [] w h = cc
 any-weaker f q (t ∷ ts) w h = first-or-later (f t) (q t) (list_any f ts) (list_any q ts) (w t) (λ k. any-weaker f q ts w k) h
   where
@@ -65,7 +65,7 @@ any-weaker f q (t ∷ ts) w h = first-or-later (f t) (q t) (list_any f ts) (list
     first-or-later true b c d p r h = or_left b d (p refl)
     first-or-later false b c d p r h = or_right b d (r h)
 
-any-at : (q : Tree → Bool) (ts : List Tree) (k : ℕ) (x : Tree) → k < length ts → get_or ts k x ≡ x → q x ≡ true → list_any q ts ≡ true
+pub any-at : (q : Tree → Bool) (ts : List Tree) (k : ℕ) (x : Tree) → k < length ts → get_or ts k x ≡ x → q x ≡ true → list_any q ts ≡ true
 any-at q [] k x h e p = absurd (omega arith)
 any-at q (t ∷ ts) zero x h e p = or_left (q t) (list_any q ts) (ap q e ∙ p)
 any-at q (t ∷ ts) (suc k) x h e p = or_right (q t) (list_any q ts) (any-at q ts k x (omega arith) e p)
@@ -79,7 +79,7 @@ lacks-kind name (f ∷ s) h = go (bytes_eq name f.0) (has_name name s) (field_ki
     go true c o k h r = cc
     go false c o k h r = r h
 
-unknown-refused : (name : List ℕ) (s : Fields) → has_name name s ≡ false → (x : Tree) → is_column_of name x ≡ true → is_refused s x ≡ true
+pub unknown-refused : (name : List ℕ) (s : Fields) → has_name name s ≡ false → (x : Tree) → is_column_of name x ≡ true → is_refused s x ≡ true
 unknown-refused name s h (Tree.column other) e =
     or_left (is_unknown s (Tree.column other)) _ (subst (λ n. is_none (field_kind n s) ≡ true) ((bytes_eq-Decides name other).0 e) (ap is_none (lacks-kind name s h)))
 unknown-refused name s h (Tree.literal l) e = cc
@@ -97,7 +97,7 @@ unknown-refused name s h Tree.len e = cc
 unknown-refused name s h (Tree.left_out w) e = cc
 unknown-refused name s h Tree.missing e = cc
 
-breaks-refused : (s : Fields) (x : Tree) → breaks_rule s x ≡ true → is_refused s x ≡ true
+pub breaks-refused : (s : Fields) (x : Tree) → breaks_rule s x ≡ true → is_refused s x ≡ true
 breaks-refused s x e = or_right (is_unknown s x) _ (or_left (breaks_rule s x) _ e)
 
 some-refused : (at : Node) (s : Fields) (t : Tree) (e : PolarsError) → IsTypingError at s t e → e ≢ error.OutOfMemory → some_part (is_refused s) t ≡ true
@@ -118,3 +118,11 @@ no-some (Some k) h = cc
 -- so it has no kind, where kinds are exact
 pub no-kind : (at : Node) (s : Fields) (t : Tree) (e : PolarsError) → is_some (kind_over s t) ≡ is_accepted s t → IsTypingError at s t e → e ≢ error.OutOfMemory → kind_over s t ≡ None
 no-kind at s t e exact h ne = no-some (kind_over s t) (exact ∙ none-passes (is_refused s) t ∙ ap not (some-refused at s t e h ne))
+
+-- where there is a kind, no part is refused
+pub none-refused : (s : Fields) (t : Tree) (k : DataType) → is_some (kind_over s t) ≡ is_accepted s t → kind_over s t ≡ Some k → some_part (is_refused s) t ≡ false
+none-refused s t k exact h = by (some_part (is_refused s) t) (sym (none-passes (is_refused s) t) ∙ sym exact ∙ ap is_some h)
+  where
+    by : (b : Bool) → not b ≡ true → b ≡ false
+    by true p = sym p
+    by false p = refl

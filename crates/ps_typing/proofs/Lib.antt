@@ -1,3 +1,4 @@
+pub mod Arenas
 pub mod Broken
 pub mod Columns
 pub mod Exact

@@ -22,7 +22,7 @@ pub record AreAmong (us ts : List Tree) : Type 0 where
   pub tests : (f : Tree → Bool) → list_any f us ≡ true → list_any f ts ≡ true
   pub parts : (x : Tree) → Contains us x → Contains ts x
 
-among-left : (us vs : List Tree) → AreAmong us (us ++ vs)
+pub among-left : (us vs : List Tree) → AreAmong us (us ++ vs)
 among-left us vs = record { tests = λ f h. list_any-append f us vs ∙ or_left (list_any f us) (list_any f vs) h; parts = λ x h. Contains-append_left us vs x h }
 
 pub among-right : (us vs : List Tree) → AreAmong vs (us ++ vs)

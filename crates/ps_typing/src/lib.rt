@@ -4,3 +4,5 @@
 pub mod kinds;
 pub mod nature;
 mod rules;
+#[cfg(test)]
+mod tests;

@@ -1,0 +1,4 @@
+pub mod Adding
+pub mod Grouping
+pub mod Keys
+pub mod Selecting
