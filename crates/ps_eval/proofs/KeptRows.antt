@@ -116,16 +116,16 @@ kept-rows (row ∷ rows) = go (row_causes row) refl (kept-rows rows)
         rw (bad, front) refl
 
 -- a fault in a row is a cause of the columns
-cell-causes : (cells : List Cell) (k : ℕ) (f : DataFault) → IsFaultOf (cell_causes (get_or cells k (value val.Null))) f → IsFaultOf (flat_map cell_causes cells) f
+pub cell-causes : (cells : List Cell) (k : ℕ) (f : DataFault) → IsFaultOf (cell_causes (get_or cells k (value val.Null))) f → IsFaultOf (flat_map cell_causes cells) f
 cell-causes [] k f h = absurd h
 cell-causes (x ∷ cells) zero f h = one_of-left (cell_causes x) (flat_map cell_causes cells) f h
 cell-causes (x ∷ cells) (suc k) f h = one_of-right (cell_causes x) (flat_map cell_causes cells) f (cell-causes cells k f h)
 
-head-or : (xs ys : List Cause) (f : DataFault) → head_fault (xs ++ ys) ≡ Some f → (head_fault xs ≡ Some f) ⊎ (head_fault ys ≡ Some f)
+pub head-or : (xs ys : List Cause) (f : DataFault) → head_fault (xs ++ ys) ≡ Some f → (head_fault xs ≡ Some f) ⊎ (head_fault ys ≡ Some f)
 head-or [] ys f e = inr e
 head-or (x ∷ xs) ys f e = inl e
 
-head-one_of : (xs : List Cause) (f : DataFault) → head_fault xs ≡ Some f → IsFaultOf xs f
+pub head-one_of : (xs : List Cause) (f : DataFault) → head_fault xs ≡ Some f → IsFaultOf xs f
 head-one_of [] f e = cc
 head-one_of (x ∷ xs) f e = let g : f ≡ x.fault = cc in inl g
 

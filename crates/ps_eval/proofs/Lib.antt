@@ -1,7 +1,10 @@
 pub mod Agreement
 pub mod Evaluating
 pub mod KeptRows
+pub mod LaneRows
+pub mod Operators
 pub mod Parts
+pub mod Standing
 pub mod Taking
 pub mod WholeOperands
 pub mod Zips

@@ -113,20 +113,20 @@ takes-kinds s f entry.Len h = tt
 takes-kinds s f (entry.LeftOut w) h = let no : false ≡ true = h in cc
 
 -- each of several expressions
-pub complete-at : (f : Node → Tree) (ns : List Node) (i : ℕ) (n : Node) → i < length ns → n ≡ get_or ns i n → AreComplete (trees_of f ns) → IsComplete (f n)
-complete-at f [] i n h e c = absurd (omega arith)
-complete-at f (m ∷ ns) zero n h e c = subst (λ (x : Node). IsComplete (f x)) (sym e) c.0
-complete-at f (m ∷ ns) (suc i) n h e c = complete-at f ns i n (omega arith) e c.1
+pub complete-at : (f : Node → Tree) (ns : List Node) (i : ℕ) (d : Node) → i < length ns → AreComplete (trees_of f ns) → IsComplete (f (get_or ns i d))
+complete-at f [] i d h c = absurd (omega arith)
+complete-at f (m ∷ ns) zero d h c = c.0
+complete-at f (m ∷ ns) (suc i) d h c = complete-at f ns i d (omega arith) c.1
 
-pub kind-at_of : (s : Fields) (f : Node → Tree) (ns : List Node) (i : ℕ) (n : Node) → i < length ns → n ≡ get_or ns i n → IsTrue (have_kinds s (trees_of f ns)) → IsSome (kind_over s (f n))
-kind-at_of s f [] i n h e c = absurd (omega arith)
-kind-at_of s f (m ∷ ns) zero n h e c = subst (λ (x : Node). IsSome (kind_over s (f x))) (sym e) (both (is_some (kind_over s (f m))) (have_kinds s (trees_of f ns)) c).0
-kind-at_of s f (m ∷ ns) (suc i) n h e c = kind-at_of s f ns i n (omega arith) e (both (is_some (kind_over s (f m))) (have_kinds s (trees_of f ns)) c).1
+pub kind-at_of : (s : Fields) (f : Node → Tree) (ns : List Node) (i : ℕ) (d : Node) → i < length ns → IsTrue (have_kinds s (trees_of f ns)) → IsSome (kind_over s (f (get_or ns i d)))
+kind-at_of s f [] i d h c = absurd (omega arith)
+kind-at_of s f (m ∷ ns) zero d h c = (both (is_some (kind_over s (f m))) (have_kinds s (trees_of f ns)) c).0
+kind-at_of s f (m ∷ ns) (suc i) d h c = kind-at_of s f ns i d (omega arith) (both (is_some (kind_over s (f m))) (have_kinds s (trees_of f ns)) c).1
 
-pub size-at : (f : Node → Tree) (ns : List Node) (i : ℕ) (n : Node) → i < length ns → n ≡ get_or ns i n → tree_size (f n) ≤ trees_size (trees_of f ns)
-size-at f [] i n h e = absurd (omega arith)
-size-at f (m ∷ ns) zero n h e = let same = ap (λ (x : Node). tree_size (f x)) e in omega arith
-size-at f (m ∷ ns) (suc i) n h e = let rest = size-at f ns i n (omega arith) e in omega arith
+pub size-at : (f : Node → Tree) (ns : List Node) (i : ℕ) (d : Node) → i < length ns → tree_size (f (get_or ns i d)) ≤ trees_size (trees_of f ns)
+size-at f [] i d h = absurd (omega arith)
+size-at f (m ∷ ns) zero d h = omega arith
+size-at f (m ∷ ns) (suc i) d h = let rest = size-at f ns i d (omega arith) in omega arith
 
 all-push : (t : Frame) (f : Node → Tree) (ns : List Node) (n : Node) (ps : List Part) (p : Part) → EvaluateAll t (trees_of f ns) ps → Evaluates t (f n) p → EvaluateAll t (trees_of f (ns ++ n ∷ [])) (ps ++ p ∷ [])
 all-push t f [] n [] p h e = (e, tt)
@@ -134,8 +134,8 @@ all-push t f [] n (q ∷ ps) p h e = absurd h
 all-push t f (m ∷ ns) n [] p h e = absurd h
 all-push t f (m ∷ ns) n (q ∷ ps) p h e = (h.0, all-push t f ns n ps p h.1 e)
 
-pub all-more : (t : Frame) (f : Node → Tree) (ns : List Node) (i : ℕ) (n : Node) (ps new : List Part) (p : Part) → i < length ns → n ≡ get_or ns i n → EvaluateAll t (trees_of f (take i ns)) ps → Evaluates t (f n) p → new ≡ ps ++ p ∷ []
+pub all-more : (t : Frame) (f : Node → Tree) (ns : List Node) (i : ℕ) (d : Node) (ps new : List Part) (p : Part) → i < length ns → EvaluateAll t (trees_of f (take i ns)) ps → Evaluates t (f (get_or ns i d)) p → new ≡ ps ++ p ∷ []
     → EvaluateAll t (trees_of f (take (i + 1) ns)) new
-all-more t f ns i n ps new p h at before one grown =
-    let e = take_more ns i n h ∙ ap (λ x. take i ns ++ x ∷ []) (sym at) in
-    subst (λ xs. EvaluateAll t (trees_of f xs) new) (sym e) (subst (EvaluateAll t (trees_of f (take i ns ++ n ∷ []))) (sym grown) (all-push t f (take i ns) n ps p before one))
+all-more t f ns i d ps new p h before one grown =
+    subst (λ xs. EvaluateAll t (trees_of f xs) new) (sym (take_more ns i d h))
+    (subst (EvaluateAll t (trees_of f (take i ns ++ get_or ns i d ∷ []))) (sym grown) (all-push t f (take i ns) (get_or ns i d) ps p before one))

@@ -4,3 +4,4 @@ pub mod Rows
 pub mod Cellwise
 pub mod Wholes
 pub mod Evaluations
+pub mod Lanes

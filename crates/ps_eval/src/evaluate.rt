@@ -1,5 +1,10 @@
 // The column of an expression over a table.
-ghost use Rattle.std.specs.Prelude.{◌≡◌, IfOk, IsSome, IsTrue, Some};
+ghost use Rattle.std.specs.Prelude.{◌≡◌, ℕ, Err, IfOk, IsSome, IsTrue, OnErr, Some, option_to_list};
+ghost use Rattle.ps_eval.specs.Held.{Keeps, cells_of};
+ghost use Rattle.ps_frame.specs.Causes.{Column as AColumn};
+ghost use Rattle.ps_frame.specs.Eval.{eval};
+ghost use Rattle.ps_frame.specs.Evaluated.{StandsFor};
+ghost use Rattle.ps_frame.specs.Tables.{whole};
 ghost use Rattle.ps_eval.specs.Evaluations.{EvaluateAll, Evaluates, TakesKinds};
 ghost use Rattle.ps_frame.specs.Trees.{AreComplete, IsComplete, IsExpression, entry_tree, tree_at, tree_size, trees_of};
 ghost use Rattle.ps_frame.specs.Typing.{have_kinds, kind_over};
@@ -13,6 +18,8 @@ use crate::whole::{function_part, gathered_part, sliced_part, sorted_part};
 use crate::sort_by::sorted_by_part;
 use ps_frame::expr::{AExpr, entry};
 use ps_frame::frame::DataFrame;
+use ps_frame::refusal::{PolarsError, PolarsResult};
+use ps_frame::value::{DataFault, Evaluated};
 use pu_index::{Arena, Node};
 use std::alloc::{AllocError, Global};
 
@@ -151,4 +158,63 @@ fn parts_of(
         parts.push(part_of(alloc, *expr, arena, df)?)?;
     }
     Ok(parts)
+}
+
+/// The column of an expression over a table.
+///
+/// The expression's numbers are in range and none reaches itself, and it has a kind over the table.
+/// A faulty cell holds one of that cell's causes, and `broken` is empty exactly where nothing ended
+/// the column early, and else holds one of the causes that did. Fails only for want of memory.
+pub fn evaluate(
+    alloc: Global,
+    expr: Node,
+    arena: &Arena<AExpr>,
+    df: &DataFrame,
+) -> PolarsResult<Evaluated>
+    requires expression { IsExpression arena.now expr }
+    requires kind { IsSome (kind_over df.now.schema (tree_at arena.now expr)) }
+    ensures stands { IfOk result (λ evaluated. (node : ℕ) → StandsFor evaluated (eval node (whole df.now) (tree_at arena.now expr))) }
+    ensures kind { IfOk result (λ evaluated. kind_over df.now.schema (tree_at arena.now expr) ≡ Some evaluated.dtype) }
+    ensures memory { OnErr result (result ≡ Err PolarsError.OutOfMemory) }
+{
+    match part_of(alloc, expr, arena, df) {
+        Ok(part) => evaluated(alloc, part),
+        Err(_) => Err(PolarsError::OutOfMemory),
+    }
+}
+
+fn evaluated(alloc: Global, part: Part) -> PolarsResult<Evaluated>
+    ensures kind { IfOk result (λ evaluated. evaluated.dtype ≡ part.dtype) }
+    ensures stands { IfOk result (λ evaluated. (c : AColumn) → Keeps part c → StandsFor evaluated c) }
+    ensures memory { OnErr result (result ≡ Err PolarsError.OutOfMemory) }
+{
+    match written_out(alloc, part) {
+        Ok(evaluated) => Ok(evaluated),
+        Err(_) => Err(PolarsError::OutOfMemory),
+    }
+}
+
+fn written_out(alloc: Global, part: Part) -> Result<Evaluated, AllocError>
+    ensures kind { IfOk result (λ evaluated. evaluated.dtype ≡ part.dtype) }
+    ensures cells { IfOk result (λ evaluated. evaluated.cells.items ≡ cells_of part.cells) }
+    ensures broken { IfOk result (λ evaluated. evaluated.broken.items ≡ option_to_list part.fault) }
+{
+    let dtype = part.dtype;
+    let broken = fault_list(alloc, part.fault)?;
+    let cells = part.cells.into_cells(alloc)?;
+    Ok(Evaluated {
+        dtype,
+        cells,
+        broken,
+    })
+}
+
+fn fault_list(alloc: Global, fault: Option<DataFault>) -> Result<Vec<DataFault>, AllocError>
+    ensures { IfOk result (λ faults. faults.items ≡ option_to_list fault) }
+{
+    let mut faults = Vec::new(alloc);
+    if let Some(fault) = fault {
+        faults.push(fault)?;
+    }
+    Ok(faults)
 }

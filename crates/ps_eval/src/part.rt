@@ -6,6 +6,7 @@ ghost use Rattle.ps_frame.specs.Causes.{whole_column};
 ghost use Rattle.ps_frame.specs.Eval.{values_between};
 ghost use Rattle.ps_frame.specs.declared.value.Cell.TheVariants as held;
 
+use crate::growing::as_cells;
 use crate::lengths::Ending;
 use ps_frame::column::Column;
 use ps_frame::value::{Cell, DataFault, DataType, Value};
@@ -130,6 +131,18 @@ impl Cells {
         match self {
             Cells::Whole(values) => values.len(),
             Cells::Mixed(cells) => cells.len(),
+        }
+    }
+
+    /// The cells one by one; shared values are copied.
+    ///
+    /// Fails only for want of memory.
+    pub fn into_cells(self, alloc: Global) -> Result<Vec<Cell>, AllocError>
+        ensures { IfOk result (λ cells. cells.items ≡ cells_of self) }
+    {
+        match self {
+            Cells::Whole(values) => as_cells(alloc, values.into_vec(alloc)?),
+            Cells::Mixed(cells) => Ok(cells),
         }
     }
 
