@@ -20,7 +20,8 @@ use Rattle.ps_frame.specs.declared.refusal.PolarsError.TheVariants as error
 use Rattle.ps_frame.specs.declared.value.DataType.{DataType}
 use Rattle.ps_plan.specs.Refusals.{Refusal, TypingRefused, break_rules, column_not_found, duplicate, invalid_plan, lacks_column, no_key, repeats, schema_mismatch, unsupported}
 use Rattle.ps_plan.specs.Schemas.{both as both_of, expr_names, fields_of, is_among, names_of, output_schema}
-use Rattle.ps_plan.specs.Steps.{GroupStep, Name, Named, Step, exprs_of, group_by, select}
+use Rattle.ps_plan.specs.Steps.{Cut, GroupStep, Name, Named, Step, exprs_of, group_by, group_step, named_trees, select}
+use Rattle.ps_plan.specs.declared.ir.ExprIR.{ExprIR}
 use Rattle.ps_typing.proofs.Parts.{AreAmong, among-left, among-right, carried}
 use Rattle.ps_validate.proofs.Selecting.{both-some, differ, lacks-none, names-same, select-error, select-typed}
 use Rattle.ps_validate.specs.Fields.{IsFieldError, all_parts, not_scalar}
@@ -126,3 +127,25 @@ module _ (F : Functions) (at : Node) (s : Fields) (o : GroupStep) where
       unsupported-group _ r = r
   group-typed fs exact h d some scalar literal (invalid_plan w) r = r
   group-typed fs exact h d some scalar literal no_key r = r
+
+keys-fields : (z s p : Fields) (ks : List Named) → z ≡ [] → option_map (λ fs. z ++ fs) (fields_of ks s) ≡ Some p → fields_of ks s ≡ Some p
+keys-fields z s p ks none h = plain (fields_of ks s) p (ap (λ (r : Fields). option_map (λ fs. r ++ fs) (fields_of ks s)) (sym none) ∙ h)
+  where
+    plain : (o : Option Fields) (q : Fields) → option_map (λ fs. [] ++ fs) o ≡ Some q → o ≡ Some q
+    plain None q h = cc
+    plain (Some fs) q h = h
+
+-- the names of the keys' fields
+pub keys-names : (z s p : Fields) (ks : List Named) → z ≡ [] → option_map (λ fs. z ++ fs) (fields_of ks s) ≡ Some p → names_of p ≡ expr_names ks
+keys-names z s p ks none h = names-same s ks p (keys-fields z s p ks none h)
+
+-- the fields of both
+pub both-fields : (z s p q : Fields) (ks as' : List Named) → z ≡ [] → option_map (λ fs. z ++ fs) (fields_of ks s) ≡ Some p → option_map (λ fs. p ++ fs) (fields_of as' s) ≡ Some q → fields_of (ks ++ as') s ≡ Some q
+both-fields z s p q ks as' none h k = fields-append s ks as' p q (keys-fields z s p ks none h) k
+
+-- a failure that a group-by passes on
+pub group-passed : {T : Type 0} (at : Node) (s : Fields) (f : Node → Tree) (keys aggs : List ExprIR) (x : PolarsError) (r : Result T PolarsError) → IsErrAnd r (λ y. y ≡ x) → IsFieldError at s [] (named_trees f keys ++ named_trees f aggs) x → IfErr r (λ e. (F : Functions) (maintain : Bool) (cut : Cut) → IsNodeError F at (group_step f keys aggs maintain cut) (s ∷ []) e)
+group-passed at s f keys aggs x (Ok y) p h = absurd p
+group-passed at s f keys aggs x (Err y) p h =
+    λ F maintain cut. subst (λ e. IsNodeError F at (group_step f keys aggs maintain cut) (s ∷ []) e) (sym p)
+    (group-error F at s (record { keys = named_trees f keys; aggregates = named_trees f aggs; maintain_order = maintain; cut = cut }) x h)

@@ -1,4 +1,5 @@
 pub mod Adding
 pub mod Grouping
 pub mod Keys
+pub mod Passing
 pub mod Selecting
