@@ -35,11 +35,7 @@ pub fn aggregated(aggregate: IRAggExpr) -> Node
 /// What an aggregate gives of its input: one cell.
 ///
 /// Fails only for want of memory.
-pub fn aggregated_part(
-    alloc: Global,
-    aggregate: IRAggExpr,
-    input: Part,
-) -> Result<Part, AllocError>
+pub fn aggregated_part(alloc: Global, aggregate: IRAggExpr, input: Part) -> Result<Part, AllocError>
     ensures kind { IfOk result (λ part. part.dtype ≡ aggregated_kind (aggregation_of aggregate) input.dtype) }
     ensures cells { IfOk result (λ part. (node : ℕ) → IsOfWhole (aggregates node (aggregation_of aggregate) input.dtype) (input ∷ []) part) }
 {
@@ -103,11 +99,7 @@ fn counted(values: &[Value], all: bool) -> usize
     }
 }
 
-fn chosen_part(
-    alloc: Global,
-    dtype: DataType,
-    value: Option<&Value>,
-) -> Result<Part, AllocError>
+fn chosen_part(alloc: Global, dtype: DataType, value: Option<&Value>) -> Result<Part, AllocError>
     ensures kind { IfOk result (λ part. part.dtype ≡ dtype) }
     ensures cells { IfOk result (λ part. Keeps part (whole_column (or_null (option_copied value.entry) ∷ []))) }
 {

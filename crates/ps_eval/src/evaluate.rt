@@ -9,13 +9,13 @@ ghost use Rattle.ps_eval.specs.Evaluations.{EvaluateAll, Evaluates, TakesKinds};
 ghost use Rattle.ps_frame.specs.Trees.{AreComplete, IsComplete, IsExpression, entry_tree, tree_at, tree_size, trees_of};
 ghost use Rattle.ps_frame.specs.Typing.{have_kinds, kind_over};
 
+use crate::aggregate::{aggregated, aggregated_part};
 use crate::elementwise::{Unary, binary_part, ternary_part, unary_part};
 use crate::filter::kept_part;
 use crate::part::Part;
-use crate::sources::{column_part, count_part, literal_part};
-use crate::aggregate::{aggregated, aggregated_part};
-use crate::whole::{function_part, gathered_part, sliced_part, sorted_part};
 use crate::sort_by::sorted_by_part;
+use crate::sources::{column_part, count_part, literal_part};
+use crate::whole::{function_part, gathered_part, sliced_part, sorted_part};
 use ps_frame::expr::{AExpr, entry};
 use ps_frame::frame::DataFrame;
 use ps_frame::refusal::{PolarsError, PolarsResult};

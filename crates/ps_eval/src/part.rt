@@ -46,7 +46,12 @@ impl Values {
         let count = to.saturating_sub(from);
         match self {
             Values::Shared(column) => shared_slice(alloc, column, from, count),
-            Values::Owned(values) => Ok(Values::Owned(copy_slice(alloc, values.as_slice(), from, count)?)),
+            Values::Owned(values) => Ok(Values::Owned(copy_slice(
+                alloc,
+                values.as_slice(),
+                from,
+                count,
+            )?)),
         }
     }
 

@@ -5,7 +5,6 @@ ghost use Rattle.ps_eval.specs.Wholes.{IsOfWhole, called_kind, gathers, int_of, 
 ghost use Rattle.ps_frame.specs.Causes.{Column as AColumn, whole_column};
 ghost use Rattle.ps_frame.specs.Sorting.{values_in_order};
 ghost use Rattle.ps_frame.specs.Eval.{at, function_column, operand, slice_column};
-
 ghost use Rattle.ps_frame.specs.declared.value.Value.TheVariants as val;
 
 use crate::elementwise::{Unary, unary_part};
