@@ -10,4 +10,6 @@ pub mod lengths;
 pub mod part;
 pub mod sort_by;
 pub mod sources;
+#[cfg(test)]
+mod tests;
 pub mod whole;

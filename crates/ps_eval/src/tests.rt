@@ -1,0 +1,89 @@
+// Expressions over a table of no columns, and aggregates of 1, null and 3.
+use crate::aggregate::aggregated_part;
+use crate::evaluate::evaluate;
+use crate::part::{Cells, Part, whole_part};
+use crate::whole::reversed_part;
+use ps_frame::expr::{AExpr, IRAggExpr, LiteralValue};
+use ps_frame::frame::DataFrame;
+use ps_frame::schema::Schema;
+use ps_frame::value::{Cell, DataFault, DataType, Value};
+use pu_index::{Arena, Node};
+use pu_order::PlSmallStr;
+use std::alloc::{AllocError, Global};
+use std::test::Fail;
+
+// 1, null and 3.
+fn numbers(alloc: Global) -> Result<Part, AllocError> {
+    let mut values = Vec::new(alloc);
+    values.push(Value::Int64(1))?;
+    values.push(Value::Null)?;
+    values.push(Value::Int64(3))?;
+    Ok(whole_part(DataType::Int64, values))
+}
+
+fn first_int(part: &Part) -> Option<i64> {
+    match &part.cells {
+        Cells::Whole(values) => match values.as_slice().first() {
+            Some(Value::Int64(z)) => Some(*z),
+            _ => None,
+        },
+        Cells::Mixed(_) => None,
+    }
+}
+
+fn first_count(part: &Part) -> Option<u32> {
+    match &part.cells {
+        Cells::Whole(values) => match values.as_slice().first() {
+            Some(Value::IdxSize(n)) => Some(*n),
+            _ => None,
+        },
+        Cells::Mixed(_) => None,
+    }
+}
+
+fn aggregate(alloc: Global, aggregate: IRAggExpr) -> Result<Part, AllocError> {
+    aggregated_part(alloc, aggregate, numbers(alloc)?)
+}
+
+#[test]
+fn aggregates_of_one_null_and_three(rt: HostRuntime) -> Result<(), Fail> {
+    let n = Node(0);
+    assert_eq!(rt;
+        first_int(&aggregate(rt.alloc(), IRAggExpr::Sum(n))?),
+        Some(4)
+    );
+    assert_eq!(rt;
+        first_count(&aggregate(rt.alloc(), IRAggExpr::NUnique(n))?),
+        Some(3)
+    );
+    assert_eq!(rt;
+        first_count(&aggregate(rt.alloc(), IRAggExpr::Count(n, false))?),
+        Some(2)
+    );
+    assert_eq!(rt;
+        first_count(&aggregate(rt.alloc(), IRAggExpr::Count(n, true))?),
+        Some(3)
+    );
+    let turned = reversed_part(rt.alloc(), numbers(rt.alloc())?)?;
+    assert_eq!(rt; first_int(&turned), Some(3));
+    Ok(())
+}
+
+#[test]
+fn a_strict_cast_of_a_word_is_one_faulty_cell(rt: HostRuntime) -> Result<(), Fail> {
+    let word = PlSmallStr::from_str(rt.alloc(), "x")?;
+    let mut arena = Arena::new(rt.alloc());
+    let literal = arena.add(AExpr::Literal(LiteralValue::String(word)))?;
+    let cast = arena.add(AExpr::Cast {
+        expr: literal,
+        dtype: DataType::Int64,
+        strict: true,
+    })?;
+    let schema = Schema::new(rt.alloc());
+    let df = DataFrame::empty_with_schema(rt.alloc(), &schema)?;
+    let answer = evaluate(rt.alloc(), cast, &arena, &df)?;
+    assert_eq!(rt; answer.cells.len(), 1);
+    assert!(rt; matches!(answer.cells.first(), Some(Cell::Bad(DataFault::StrictCast))));
+    assert!(rt; answer.broken.is_empty());
+    Ok(())
+}
