@@ -6,7 +6,7 @@ pub loop-item-preserved : goal.loop-item-preserved
 loop-item-preserved g c =
     let i = c.loop-item.invariant in
     record {
-      added = ?;
+      added = c.in-Ok-add.ensures.added ∙ ap (λ xs. xs ++ c.in-Some.item ∷ []) i.added;
       all = rw append_assoc (ap (λ r. c.loop-item.yielded ++ r) (sym c.in-Some.ensures.steps.0) ∙ i.all);
     }
 
