@@ -4,3 +4,4 @@ mod CellColumns
 mod TenItems
 mod Members
 mod NoPlan
+mod NoNode

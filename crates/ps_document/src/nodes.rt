@@ -401,7 +401,8 @@ fn plain_of(value: &Value) -> Option<IR>
     if let Some(node) = cache_of(value) {
         return Some(node);
     }
-    left_out_of(value).map(IR::LeftOut)
+    let kind = left_out_of(value)?;
+    Some(IR::LeftOut(kind))
 }
 
 /// The node of a value, where it has one input and a list.
