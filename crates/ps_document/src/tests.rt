@@ -1,6 +1,5 @@
 // Documents as a caller hands them in.
 use crate::document::{Document, DocumentError, read_document};
-use ps_plan::ir::IR;
 use std::alloc::Global;
 use std::test::Fail;
 
@@ -75,21 +74,6 @@ fn each_form_is_read(rt: HostRuntime) -> Result<(), Fail> {
     assert_eq!(rt; document.exprs.len(), 39);
     assert_eq!(rt; document.nodes.len(), 21);
     assert_eq!(rt; document.root.0, usize::MAX);
-    Ok(())
-}
-
-#[test]
-fn a_scan_holds_its_table(rt: HostRuntime) -> Result<(), Fail> {
-    let Ok(mut document) = read(rt.alloc(), EVERY_FORM)? else {
-        return Err(Fail::from("no document"));
-    };
-    let mut heights = Vec::new(rt.alloc());
-    while let Some(node) = document.nodes.pop() {
-        if let IR::DataFrameScan { df, projection: _ } = node {
-            heights.push((df.schema().len(), df.height()))?;
-        }
-    }
-    assert_eq!(rt; heights.as_slice(), [(0, 0), (4, 3)].as_slice());
     Ok(())
 }
 

@@ -2,7 +2,6 @@ pub mod Agreement
 pub mod Evaluating
 pub mod KeptRows
 pub mod LaneRows
-pub mod MadeArenas
 pub mod Operators
 pub mod Parts
 pub mod Standing

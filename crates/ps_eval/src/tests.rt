@@ -1,14 +1,10 @@
-// Expressions over a table of no columns, and aggregates of 1, null and 3.
+// Aggregates of 1, null and 3.
 use crate::aggregate::aggregated_part;
-use crate::evaluate::evaluate;
 use crate::part::{Cells, Part, whole_part};
 use crate::whole::reversed_part;
-use ps_frame::expr::{AExpr, IRAggExpr, LiteralValue};
-use ps_frame::frame::DataFrame;
-use ps_frame::schema::Schema;
-use ps_frame::value::{Cell, DataFault, DataType, Value};
-use pu_index::{Arena, Node};
-use pu_order::PlSmallStr;
+use ps_frame::expr::IRAggExpr;
+use ps_frame::value::{DataType, Value};
+use pu_index::Node;
 use std::alloc::{AllocError, Global};
 use std::test::Fail;
 
@@ -66,24 +62,5 @@ fn aggregates_of_one_null_and_three(rt: HostRuntime) -> Result<(), Fail> {
     );
     let turned = reversed_part(rt.alloc(), numbers(rt.alloc())?)?;
     assert_eq!(rt; first_int(&turned), Some(3));
-    Ok(())
-}
-
-#[test]
-fn a_strict_cast_of_a_word_is_one_faulty_cell(rt: HostRuntime) -> Result<(), Fail> {
-    let word = PlSmallStr::from_str(rt.alloc(), "x")?;
-    let mut arena = Arena::new(rt.alloc());
-    let literal = arena.add(AExpr::Literal(LiteralValue::String(word)))?;
-    let cast = arena.add(AExpr::Cast {
-        expr: literal,
-        dtype: DataType::Int64,
-        strict: true,
-    })?;
-    let schema = Schema::new(rt.alloc());
-    let df = DataFrame::empty_with_schema(rt.alloc(), &schema)?;
-    let answer = evaluate(rt.alloc(), cast, &arena, &df)?;
-    assert_eq!(rt; answer.cells.len(), 1);
-    assert!(rt; matches!(answer.cells.first(), Some(Cell::Bad(DataFault::StrictCast))));
-    assert!(rt; answer.broken.is_empty());
     Ok(())
 }
