@@ -1,0 +1,4 @@
+// Queries, from a plan to its table.
+#![tactic(auto)]
+
+pub mod laws;
