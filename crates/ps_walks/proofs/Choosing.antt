@@ -19,7 +19,7 @@ use Rattle.ps_plan.specs.declared.ir.FunctionIR.{FunctionIR}
 use Rattle.ps_plan.specs.declared.ir.FunctionIR.TheVariants as call
 use Rattle.ps_plan.specs.declared.ir.IR.{IR}
 use Rattle.ps_plan.specs.declared.ir.IR.TheVariants as entry
-use Rattle.ps_exec.specs.Walk.{GivesAt, Tables, tables_of}
+use Rattle.ps_walks.specs.Computed.{GivesAt, Tables, tables_of}
 
 pub same-or-not : (m n : ℕ) → (m ≡ n) ⊎ (m ≢ n)
 same-or-not m n = by (eqb_tells m n)

@@ -13,7 +13,7 @@ use Rattle.ps_plan.specs.Steps.{entry_inputs, entry_step}
 use Rattle.ps_plan.specs.declared.ir.IR.{IR}
 use Rattle.ps_plan.proofs.Complete.{numbers}
 use Rattle.ps_plan.proofs.ReachedSteps.{contains-first, contains-later}
-use Rattle.ps_exec.specs.Walk.{GivesAt, Tables, tables_of}
+use Rattle.ps_walks.specs.Computed.{GivesAt, Tables, tables_of}
 
 module _ (F : Functions) (plan : Plan) (T : Tables) (choice : Choice) where
   -- a cache has its choice's table

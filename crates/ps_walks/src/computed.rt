@@ -1,4 +1,4 @@
-// Laws of a walk over a plan, as theorems of functions that do nothing.
+// Tables that are computed node by node, as theorems of functions that do nothing.
 ghost use Rattle.std.specs.Prelude.{◌≡◌, ◌↔◌, ℕ, List, Contains};
 ghost use Rattle.ps_frame.specs.Functions.{Functions};
 ghost use Rattle.ps_frame.specs.Tables.{whole};
@@ -7,7 +7,7 @@ ghost use Rattle.ps_plan.specs.Graph.{Reached};
 ghost use Rattle.ps_plan.specs.Meaning.{IsMeaning, NodeMayFault};
 ghost use Rattle.ps_plan.specs.Plans.{Plan, tree_of};
 ghost use Rattle.ps_plan.specs.Refusals.{IsValid};
-ghost use Rattle.ps_exec.specs.Walk.{EachBelowGives, EachGives, FaultsAt, Tables};
+ghost use Rattle.ps_walks.specs.Computed.{EachBelowGives, EachGives, FaultsAt, Tables};
 
 /// Where each node at and below a reached node of a valid plan gives its table over those of its inputs, the node means its table.
 /// The order lists the reached nodes.

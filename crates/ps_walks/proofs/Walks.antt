@@ -17,9 +17,9 @@ use Rattle.ps_plan.specs.Steps.{entry_inputs, entry_step}
 use Rattle.ps_plan.specs.declared.ir.IR.{IR}
 use Rattle.ps_plan.specs.declared.ir.IR.TheVariants as entry
 use Rattle.ps_plan.proofs.ValidPlans.{path-join, reached-complete}
-use Rattle.ps_exec.proofs.Choosing.{choose, chosen-at, chosen-is, some-chosen}
-use Rattle.ps_exec.proofs.Meanings.{Fits, all-mean, means-within, within}
-use Rattle.ps_exec.specs.Walk.{EachBelowGives, EachGives, FaultsAt, Tables, tables_of}
+use Rattle.ps_walks.proofs.Choosing.{choose, chosen-at, chosen-is, some-chosen}
+use Rattle.ps_walks.proofs.Meanings.{Fits, all-mean, means-within, within}
+use Rattle.ps_walks.specs.Computed.{EachBelowGives, EachGives, FaultsAt, Tables, tables_of}
 
 pub tables-mean : (F : Functions) (plan : Plan) (order : List ℕ) (T : Tables) (n : ℕ) → IsValid F plan → ((m : ℕ) → Reached plan m ↔ Contains order m) → Reached plan n → EachGives F plan T n → IsMeaning F (tree_of plan n) (whole (T n))
 tables-mean F plan order T n valid lists reached each = (

@@ -1,4 +1,0 @@
-// Queries, from a plan to its table.
-#![tactic(auto)]
-
-pub mod laws;
