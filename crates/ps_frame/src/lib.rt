@@ -10,6 +10,7 @@ pub mod frame;
 pub mod functions;
 pub mod laws;
 pub mod refusal;
+pub mod run;
 pub mod schema;
 #[cfg(test)]
 mod tests;
