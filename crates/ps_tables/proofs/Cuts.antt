@@ -7,7 +7,7 @@ use Rattle.ps_frame.specs.Tables.{Fields, Frame, Table, whole}
 use Rattle.ps_frame.specs.declared.value.Value.{Value}
 use Rattle.ps_plan.specs.Cases.{cut_table, end_of}
 
-abbrev table : Fields → List (List Value) → List Cause → Table
+abbrev pub table : Fields → List (List Value) → List Cause → Table
 table s rows broken = record { schema = s; rows = rows; broken = broken }
 
 -- what breaks a whole table after its slice

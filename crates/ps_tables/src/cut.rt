@@ -1,7 +1,10 @@
 // The slice of a table.
-ghost use Rattle.std.specs.Prelude.{◌≡◌, Err, IfOk, OnErr};
+ghost use Rattle.std.specs.Prelude.{◌≡◌, ◌∷◌, [], Err, IfOk, OnErr, ℕ};
+ghost use Rattle.ps_frame.specs.Functions.{Functions};
 ghost use Rattle.ps_frame.specs.Tables.{whole};
 ghost use Rattle.ps_plan.specs.Cases.{cut_by, cut_table, offset_of as place_of};
+ghost use Rattle.ps_plan.specs.Nodes.{GivesFrame};
+ghost use Rattle.ps_plan.specs.Steps.{slice as slice_step};
 
 use ps_frame::frame::DataFrame;
 use ps_frame::refusal::{PolarsError, PolarsResult};
@@ -19,6 +22,17 @@ pub fn cut(alloc: Global, df: DataFrame, slice: Option<(i64, usize)>) -> PolarsR
         Some((offset, len)) => rows_between(alloc, &df, offset_of(&offset), len),
         None => Ok(df),
     }
+}
+
+/// The table of a slice: the rows from an offset on, as many as asked at most. An offset below 0 counts as 0. The
+/// values are not copied.
+///
+/// Fails only for want of memory.
+pub fn slice(alloc: Global, df: &DataFrame, offset: i64, len: usize) -> PolarsResult<DataFrame>
+    ensures table { IfOk result (λ f. (F : Functions) (at : ℕ) → GivesFrame F at (slice_step offset len) (df.now ∷ []) f) }
+    ensures memory { OnErr result (result ≡ Err PolarsError.OutOfMemory) }
+{
+    rows_between(alloc, df, offset_of(&offset), len)
 }
 
 // The rows from an offset on, as many as asked at most.

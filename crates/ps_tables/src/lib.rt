@@ -2,3 +2,8 @@
 #![tactic(auto)]
 
 pub mod cut;
+mod framed;
+pub mod pass;
+pub mod project;
+pub mod row_index;
+pub mod user;
