@@ -3,7 +3,7 @@
 
 pub mod cut;
 mod fits;
-mod framed;
+pub mod framed;
 pub mod hconcat;
 pub mod pass;
 pub mod project;
