@@ -8,5 +8,7 @@ pub mod hconcat;
 pub mod pass;
 pub mod project;
 pub mod row_index;
+#[cfg(test)]
+mod tests;
 pub mod union;
 pub mod user;
