@@ -2,3 +2,4 @@ pub mod Meanings
 pub mod Choosing
 pub mod Walks
 pub mod Clean
+pub mod Fits
