@@ -12,8 +12,9 @@ use Rattle.ps_plan.specs.Schemas.{output_schema, tree_schema, tree_schemas}
 use Rattle.ps_plan.specs.Steps.{entry_inputs, entry_step}
 use Rattle.ps_plan.specs.declared.ir.IR.{IR}
 use Rattle.ps_plan.proofs.Complete.{numbers}
-use Rattle.ps_plan.proofs.ReachedSteps.{contains-first, contains-later}
+use Rattle.ps_plan.proofs.ReachedSteps.{contains-first, contains-later, path-then}
 use Rattle.ps_plan.proofs.ValidPlans.{path-join}
+use Rattle.ps_walks.specs.Fit.{HasSchemas, plan_schemas}
 use Rattle.ps_walks.specs.Accepted.{EachBelowAccepted, IsAccepted, IsRefusedAt, IsTypedTo, NodeSchemas, schemas_at}
 
 module _ (F : Functions) (plan : Plan) (S : NodeSchemas) where
@@ -76,6 +77,17 @@ module _ (F : Functions) (plan : Plan) (S : NodeSchemas) where
 
     pub schemas-are : (n : ℕ) → Reached plan n → tree_schema F (tree_of plan n) ≡ S n
     schemas-are n reached = (settled n reached).1
+
+    same-schemas : (ns : List Node) → ((m : Node) → Contains (numbers ns) m.0 → Reached plan m.0) → schemas_at (plan_schemas F plan) ns ≡ schemas_at S ns
+    same-schemas [] all = refl
+    same-schemas (n ∷ ns) all =
+        ap (λ s. s ∷ schemas_at (plan_schemas F plan) ns) (schemas-are n.0 (all n (contains-first n.0 _))) ∙ ap (λ ss. S n.0 ∷ ss) (same-schemas ns (λ m c. all m (contains-later n.0 m.0 _ c)))
+
+    pub schemas-typed : HasSchemas F plan
+    schemas-typed n e reached is =
+        let typed = subst (λ (o : Option IR). IfSome o (λ e. IsTypedTo F (entry_step (tree_at plan.exprs) e) (schemas_at S (entry_inputs e)) (S n))) is (each n reached).typed in
+        ap (λ ss. output_schema F (entry_step (tree_at plan.exprs) e) ss) (same-schemas (entry_inputs e) (λ m c. path-then reached (subst (λ (o : Option IR). Contains (named_by entry_inputs o) m.0) (sym is) c)))
+        ∙ typed.schema ∙ ap (λ s. Some s) (sym (schemas-are n reached))
 
     clean-not-refused : (t : PlanTree) (R : Refusal) → IsClean F plan t → ¬ TreeRefused F plan t R
     clean-not-refused (PlanTree.node at step below) R clean refused = clean.2 R refused.2
