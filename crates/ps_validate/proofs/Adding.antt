@@ -29,11 +29,11 @@ use Rattle.ps_typing.specs.Refused.{IsErrorAmong}
 use Rattle.ps_validate.specs.Fields.{IsFieldError, IsPushError, all_parts, not_scalar}
 
 -- the first expression's field goes to the end of those before
-fields-next : (p : Fields) (n : Name) (k : DataType) (r : Option Fields) → option_map (λ fs. p ++ fs) (both_of (λ (j : DataType) (fs : Fields). (n, j) ∷ fs) (Some k) r) ≡ option_map (λ fs. (p ++ (n, k) ∷ []) ++ fs) r
+pub fields-next : (p : Fields) (n : Name) (k : DataType) (r : Option Fields) → option_map (λ fs. p ++ fs) (both_of (λ (j : DataType) (fs : Fields). (n, j) ∷ fs) (Some k) r) ≡ option_map (λ fs. (p ++ (n, k) ∷ []) ++ fs) r
 fields-next p n k None = refl
 fields-next p n k (Some fs) = ap Some (sym (append_assoc p ((n, k) ∷ []) fs))
 
-names-next : (p : Fields) (n : Name) (k : DataType) (ns : List Name) → names_of (p ++ (n, k) ∷ []) ++ ns ≡ names_of p ++ (n ∷ ns)
+pub names-next : (p : Fields) (n : Name) (k : DataType) (ns : List Name) → names_of (p ++ (n, k) ∷ []) ++ ns ≡ names_of p ++ (n ∷ ns)
 names-next [] n k ns = refl
 names-next (f ∷ p) n k ns = ap (λ ms. f.0 ∷ ms) (names-next p n k ns)
 
@@ -41,12 +41,12 @@ pub among-has : (n : Name) (fs : Fields) → is_among n (names_of fs) ≡ has_na
 among-has n [] = refl
 among-has n (f ∷ fs) = ap (λ b. bytes_eq n f.0 || b) (among-has n fs)
 
-among-append : (n : Name) (ns ms : List Name) → is_among n (ns ++ n ∷ ms) ≡ true
+pub among-append : (n : Name) (ns ms : List Name) → is_among n (ns ++ n ∷ ms) ≡ true
 among-append n [] ms = or_left (bytes_eq n n) (is_among n ms) ((bytes_eq-Decides n n).1 refl)
 among-append n (x ∷ ns) ms = or_right (bytes_eq n x) (is_among n (ns ++ n ∷ ms)) (among-append n ns ms)
 
 -- a name that stands, once more
-repeats-again : (n : Name) (ns ms : List Name) → is_among n ns ≡ true → repeats n (ns ++ n ∷ ms) ≡ true
+pub repeats-again : (n : Name) (ns ms : List Name) → is_among n ns ≡ true → repeats n (ns ++ n ∷ ms) ≡ true
 repeats-again n [] ms h = cc
 repeats-again n (x ∷ ns) ms h = again (bytes_eq n x) (is_among n ns) (is_among n (ns ++ n ∷ ms)) (repeats n (ns ++ n ∷ ms)) h (among-append n ns ms) (λ k. repeats-again n ns ms k)
   where

@@ -1,5 +1,14 @@
 pub mod Adding
 pub mod Grouping
-pub mod Keys
+pub mod Joining
+pub mod Keying
+pub mod KeyCounts
+pub mod Naming
 pub mod Passing
+pub mod Projecting
+pub mod Pushing
+pub mod Selected
 pub mod Selecting
+pub mod Stacking
+pub mod Stacked
+pub mod Typed

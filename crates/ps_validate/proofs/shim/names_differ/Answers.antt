@@ -1,0 +1,4 @@
+use Rattle.ps_validate.proofs.shim.names_differ.Goals as goal
+
+pub returns : goal.returns
+returns c = ?

@@ -1,0 +1,35 @@
+// The schema of a user's function over a table.
+ghost use Rattle.std.specs.Prelude.{◌≡◌, ◌<◌, ◌∷◌, IfErr, IfOk, OnOk, Some, []};
+ghost use Rattle.ps_plan.specs.Steps.{user as user_step};
+ghost use Rattle.ps_validate.specs.Nodes.{GivesSchema, IsNodeError};
+
+use crate::columns::some_columns;
+use ps_frame::functions::{CallError, Functions};
+use ps_frame::refusal::{PolarsError, PolarsResult};
+use ps_frame::schema::Schema;
+use pu_index::Node;
+use std::alloc::Global;
+
+/// The schema of a function at the node `at`: the one that it declares. The function isn't called.
+///
+/// Refused where the function declares none, or one without columns. Else it fails only for want of memory.
+pub fn function_schema<F: Functions>(
+    alloc: Global,
+    at: Node,
+    n: usize,
+    functions: &F,
+    input: &Schema,
+) -> PolarsResult<Schema>
+    requires { n < F.counted functions.now }
+    ensures given { IfOk result (λ s. GivesSchema (record { count = F.counted functions.now; streams = F.streams; answer = F.answer; declared = F.declared }) (user_step n) (input.now ∷ []) s) }
+    ensures refused { IfErr result (λ e. IsNodeError (record { count = F.counted functions.now; streams = F.streams; answer = F.answer; declared = F.declared }) at (user_step n) (input.now ∷ []) e) }
+{
+    match functions.schema(alloc, n, input) {
+        Ok(schema) => {
+            crate::shim::names_differ(&schema);
+            some_columns(at, schema)
+        }
+        Err(CallError::Fault) => Err(PolarsError::SchemaMismatch { node: at }),
+        Err(CallError::OutOfMemory) => Err(PolarsError::OutOfMemory),
+    }
+}
