@@ -134,6 +134,12 @@ module _ (f : Node → Tree) (s before : Fields) (all : List ExprIR) (i : ℕ) (
   passed-push at n x (Ok y) p same h = absurd p
   passed-push at n x (Err y) p same h = subst (λ z. IsFieldError at s (names_of before) (named_trees f all) z) (sym p) (push-error at n x same h)
 
+  -- the steps that were taken with this expression
+  pub next-steps : (more : ℕ) → more ≤ steps + tree_size (f e.node) → more ≤ first + all_sizes (exprs_of (named_trees f all))
+  next-steps more few =
+      let small : steps + all_sizes (exprs_of (named_trees f (e ∷ drop (i + 1) all))) ≤ first + all_sizes (exprs_of (named_trees f all)) = subst (λ es. steps + all_sizes (exprs_of (named_trees f es)) ≤ first + all_sizes (exprs_of (named_trees f all))) rest-is left.small in
+      omega arith
+
   pub next-left : (k : DataType) (then : Fields) (sc : Bool) (more : ℕ) → sc ≡ is_scalar (f e.node) → kind_over s (f e.node) ≡ Some k → then ≡ now ++ (name_in e.output_name, k) ∷ [] → has_name (name_in e.output_name) now ≡ false → more ≤ steps + tree_size (f e.node) → Left f s before all (i + 1) then (flag && sc) first more
   next-left k then sc more is_sc kind added fresh few =
       let n = name_in e.output_name in

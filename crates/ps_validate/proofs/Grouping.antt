@@ -122,7 +122,7 @@ module _ (F : Functions) (at : Node) (s : Fields) (o : GroupStep) where
       (λ r. breaks-none s exact es fs h (subst (λ ts. break_rules s ts ≡ true) (sym split) r)) (λ r. let q : false ≡ true = sym literal ∙ r in cc)
       (λ w c. holds-none s exact es fs h w (subst (λ ts. Contains (all_parts ts) (Tree.left_out w)) (sym split) c))
 
-keys-fields : (z s p : Fields) (ks : List Named) → z ≡ [] → option_map (λ fs. z ++ fs) (fields_of ks s) ≡ Some p → fields_of ks s ≡ Some p
+pub keys-fields : (z s p : Fields) (ks : List Named) → z ≡ [] → option_map (λ fs. z ++ fs) (fields_of ks s) ≡ Some p → fields_of ks s ≡ Some p
 keys-fields z s p ks none h = plain (fields_of ks s) p (ap (λ (r : Fields). option_map (λ fs. r ++ fs) (fields_of ks s)) (sym none) ∙ h)
   where
     plain : (o : Option Fields) (q : Fields) → option_map (λ fs. [] ++ fs) o ≡ Some q → o ≡ Some q

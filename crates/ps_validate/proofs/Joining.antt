@@ -3,7 +3,7 @@ use Rattle.std.proofs.Common.{◌≡◌, ◌≢◌, ℕ, suc, List, [], ◌∷�
 use Rattle.std.specs.Prelude.{Contains, map, not, zip, ◌&&◌, ◌||◌, ◌⊎◌, IsTrue, Option, Some, is_some, unwrap_or}
 use Rattle.std.specs.List.{list_any}
 use Rattle.std.proofs.lemmas.Bool.{or_cases, or_left, or_right}
-use Rattle.std.proofs.lemmas.List.Elements.{Contains-append_left, Contains-append_right}
+use Rattle.std.proofs.lemmas.List.Elements.{Contains-append_cases, Contains-append_left, Contains-append_right}
 use Rattle.pu_index.specs.declared.arena.Node.{Node}
 use Rattle.ps_frame.specs.Frames.{has_distinct_names}
 use Rattle.ps_frame.specs.Functions.{Functions}
@@ -18,10 +18,10 @@ use Rattle.ps_frame.specs.declared.value.DataType.{DataType}
 use Rattle.ps_frame.specs.declared.value.DataType.TheVariants as kind
 use Rattle.ps_plan.specs.Refusals.{break_rules, lacks_column, pairs_differ}
 use Rattle.ps_plan.specs.Schemas.{join_schema, left_output, names_of, output_schema, right_output, suffix_of, suffixed}
-use Rattle.ps_plan.specs.Steps.{JoinStep, join}
+use Rattle.ps_plan.specs.Steps.{JoinStep, Name, join}
 use Rattle.ps_typing.specs.Refused.{IsErrorAmong}
 use Rattle.ps_validate.proofs.Grouping.{parts-append}
-use Rattle.ps_validate.proofs.Keying.{among-error, keys-break, keys-lack}
+use Rattle.ps_validate.proofs.Keying.{among-error, keys-break, keys-hold, keys-lack}
 use Rattle.ps_validate.proofs.Typed.{Shown, gives-by, repeat-error}
 use Rattle.ps_validate.specs.Columns.{IsRepeatError}
 use Rattle.ps_validate.specs.Fields.{all_parts}
@@ -121,18 +121,20 @@ module _ (F : Functions) (at : Node) (l r : Fields) (o : JoinStep) where
   pair-error js ks n h g ne = (refl, inl (one-of (break_rules l o.left_on) (break_rules r o.right_on) (pairs_differ l r o.left_on o.right_on) (inr (inr (pairs-other l r o.left_on o.right_on js ks n h g ne)))))
 
   -- the columns of both sides
-  module _ (left added then : Fields) (is_left : left ≡ left_output o l) (is_right : added ≡ right_output o r) where
-    pub both-columns : left ++ suffixed (suffix_of o) (names_of left) added ≡ join_schema o l r
-    both-columns = ap (λ fs. fs ++ suffixed (suffix_of o) (names_of fs) added) is_left ∙ ap (λ fs. left_output o l ++ suffixed (suffix_of o) (names_of (left_output o l)) fs) is_right
+  module _ (left added : Fields) (is_left : left ≡ left_output o l) (is_right : added ≡ right_output o r) (suffix : Name) (taken : Fields) (is_suffix : suffix ≡ suffix_of o) (is_taken : taken ≡ left) where
+    pub both-columns : left ++ suffixed suffix (names_of taken) added ≡ join_schema o l r
+    both-columns =
+        ap (λ x. left ++ suffixed x (names_of taken) added) is_suffix ∙ ap (λ fs. left ++ suffixed (suffix_of o) (names_of fs) added) is_taken ∙ ap (λ fs. fs ++ suffixed (suffix_of o) (names_of fs) added) is_left
+        ∙ ap (λ fs. left_output o l ++ suffixed (suffix_of o) (names_of (left_output o l)) fs) is_right
 
-    pub column-error : (e : PolarsError) → IsRepeatError at (names_of (left ++ suffixed (suffix_of o) (names_of left) added)) e → IsNodeError F at (join o) (l ∷ r ∷ []) e
+    pub column-error : (e : PolarsError) → IsRepeatError at (names_of (left ++ suffixed suffix (names_of taken) added)) e → IsNodeError F at (join o) (l ∷ r ∷ []) e
     column-error e h = repeat-error F (join o) (l ∷ r ∷ []) left at e (names_of (join_schema o l r)) refl (subst (λ fs. IsRepeatError at (names_of fs) e) both-columns h)
 
-    pub join-gives : (js ks : List DataType) → ((t : Tree) → is_some (kind_over l t) ≡ is_accepted l t) → ((t : Tree) → is_some (kind_over r t) ≡ is_accepted r t) → map Some js ≡ map (kind_over l) o.left_on → map Some ks ≡ map (kind_over r) o.right_on → js ≡ ks
-        → then ≡ join_schema o l r → IsTrue (has_distinct_names then) → then ≢ [] → GivesSchema F (join o) (l ∷ r ∷ []) then
-    join-gives js ks exact_left exact_right h g same is d some =
-        gives-by F (join o) (l ∷ r ∷ []) then (record { schema = ap Some (sym is); names = ap names_of (sym is); distinct = d; some = some })
+    pub join-gives : (then : Fields) (js ks : List DataType) → ((t : Tree) → is_some (kind_over l t) ≡ is_accepted l t) → ((t : Tree) → is_some (kind_over r t) ≡ is_accepted r t) → map Some js ≡ map (kind_over l) o.left_on → map Some ks ≡ map (kind_over r) o.right_on → js ≡ ks
+        → then ≡ left ++ suffixed suffix (names_of taken) added → IsTrue (has_distinct_names then) → then ≢ [] → GivesSchema F (join o) (l ∷ r ∷ []) then
+    join-gives then js ks exact_left exact_right h g same is d some =
+        gives-by F (join o) (l ∷ r ∷ []) then (record { schema = ap Some (sym (is ∙ both-columns)); names = ap names_of (sym (is ∙ both-columns)); distinct = d; some = some })
         (λ n q. elim (or_cases (lacks_column n l o.left_on) (lacks_column n r o.right_on) q) [ inl x ↦ keys-lack l exact_left o.left_on js n h x | inr x ↦ keys-lack r exact_right o.right_on ks n g x ]) (λ n q. q)
         (λ q. which-of (break_rules l o.left_on) (break_rules r o.right_on) (pairs_differ l r o.left_on o.right_on) q (λ x. keys-break l exact_left o.left_on js h x) (λ x. keys-break r exact_right o.right_on ks g x) (λ x. pairs-same l r o.left_on o.right_on js ks h g same x))
         (λ q. let x : false ≡ true = q in cc) (λ q. q)
-        (λ w c. both-hold l r exact_left exact_right o.left_on o.right_on js ks h g w (subst (λ ts. Contains ts (Tree.left_out w)) (parts-append o.left_on o.right_on) c))
+        (λ w c. elim (Contains-append_cases (all_parts o.left_on) (all_parts o.right_on) (Tree.left_out w) (subst (λ ts. Contains ts (Tree.left_out w)) (parts-append o.left_on o.right_on) c)) [ inl x ↦ keys-hold l exact_left o.left_on js h w x | inr x ↦ keys-hold r exact_right o.right_on ks g w x ])

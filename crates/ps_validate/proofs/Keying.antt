@@ -9,7 +9,7 @@ use Rattle.pu_index.specs.declared.arena.Node.{Node}
 use Rattle.ps_frame.specs.Frames.{has_name}
 use Rattle.ps_frame.specs.Functions.{Functions}
 use Rattle.ps_frame.specs.Parts.{is_column_of, reads_column, some_part, tree_parts}
-use Rattle.ps_frame.specs.Refusals.{breaks_rule, is_accepted}
+use Rattle.ps_frame.specs.Refusals.{breaks_rule, is_accepted, is_refused}
 use Rattle.ps_frame.specs.Tables.{Fields}
 use Rattle.ps_frame.specs.Trees.{IsComplete, Tree, tree_size}
 use Rattle.ps_frame.specs.Typing.{kind_over}
@@ -22,9 +22,10 @@ use Rattle.ps_plan.specs.Refusals.{IsMissingColumn, StepMismatch, break_rules, l
 use Rattle.ps_plan.specs.Schemas.{first_schema}
 use Rattle.ps_plan.specs.Steps.{Name, Step, key_trees, step_exprs}
 use Rattle.ps_plan.specs.declared.ir.ExprIR.{ExprIR}
+use Rattle.ps_typing.proofs.Exact.{any-at, none-refused}
 use Rattle.ps_typing.proofs.Parts.{AreAmong, among-left, among-right, among-then, carried}
 use Rattle.ps_typing.specs.Refused.{IsErrorAmong}
-use Rattle.ps_validate.proofs.Selecting.{any-parts, breaks-nothing, reads-nothing}
+use Rattle.ps_validate.proofs.Selecting.{any-parts, breaks-nothing, reads-nothing, refuses-left}
 use Rattle.ps_validate.specs.Fields.{all_parts}
 use Rattle.ps_validate.specs.Nodes.{IsNodeError}
 
@@ -115,6 +116,18 @@ module _ (s : Fields) (exact : (t : Tree) → is_some (kind_over s t) ≡ is_acc
       not-there : (b : Bool) → not b ≡ true → b ≡ false
       not-there true q = sym q
       not-there false q = refl
+
+module _ (s : Fields) (exact : (t : Tree) → is_some (kind_over s t) ≡ is_accepted s t) where
+  passes-none : (es : List Tree) (ks : List DataType) → map Some ks ≡ map (kind_over s) es → list_any (some_part (is_refused s)) es ≡ true → ⊥
+  passes-none [] ks h r = cc
+  passes-none (e ∷ es) [] h r = cc
+  passes-none (e ∷ es) (k ∷ ks) h r =
+      let first : kind_over s e ≡ Some k = cc in
+      let later : map Some ks ≡ map (kind_over s) es = cc in
+      elim (or_cases (some_part (is_refused s) e) (list_any (some_part (is_refused s)) es) r) [ inl a ↦ (let q : false ≡ true = sym (none-refused s e k (exact e) first) ∙ a in cc) | inr b ↦ passes-none es ks later b ]
+
+  pub keys-hold : (es : List Tree) (ks : List DataType) → map Some ks ≡ map (kind_over s) es → (w : What) → Contains (all_parts es) (Tree.left_out w) → ⊥
+  keys-hold es ks h w c = passes-none es ks h (sym (any-parts (is_refused s) es) ∙ any-at (is_refused s) (all_parts es) c.0 (Tree.left_out w) c.1 c.2 (refuses-left s w))
 
 -- an error of expressions is one of a step that refuses what these refuse
 pub among-error : (F : Functions) (at : Node) (step : Step) (ss : List Fields) (s : Fields) (es : List Tree) (e : PolarsError) → IsErrorAmong at s (all_parts es) e → ((n : Name) → lacks_column n s es ≡ true → IsMissingColumn n step ss) → (break_rules s es ≡ true → StepMismatch F step ss ⊎ IsTrue (break_rules (first_schema ss) (own_exprs step))) → ((w : What) → Contains (all_parts es) (Tree.left_out w) → Contains (all_parts (step_exprs step)) (Tree.left_out w))

@@ -1,19 +1,19 @@
 -- Fields that are pushed one after another from those of a schema.
 use Rattle.std.proofs.Common.{◌≡◌, ℕ, zero, suc, ◌+◌, ◌<◌, List, [], ◌∷◌, ◌++◌, length, drop, Bool, true, false, refl, sym, subst, ◌∙◌, ap, append_assoc, add-one, arith}
-use Rattle.std.specs.Prelude.{◌||◌, Option, Some, None, option_map, slice_get, map}
+use Rattle.std.specs.Prelude.{if◌then◌else◌, not, unwrap_or, Option, Some, None, option_map, slice_get, map}
 use Rattle.std.proofs.lemmas.List.{append-nil, map-append}
 use Rattle.std.proofs.Math.Seq.{drop-length}
 use Rattle.pu_index.specs.declared.arena.Node.{Node}
 use Rattle.ps_frame.specs.Frames.{has_name}
-use Rattle.ps_frame.specs.Tables.{Fields}
+use Rattle.ps_frame.specs.Tables.{Fields, field_kind}
 use Rattle.ps_frame.specs.declared.refusal.PolarsError.{PolarsError}
 use Rattle.ps_frame.specs.declared.refusal.PolarsError.TheVariants as error
 use Rattle.ps_frame.specs.declared.value.DataType.{DataType}
 use Rattle.ps_plan.specs.Refusals.{repeats}
-use Rattle.ps_plan.specs.Schemas.{names_of}
+use Rattle.ps_plan.specs.Schemas.{is_among, names_of, suffixed, without}
 use Rattle.ps_plan.specs.Steps.{Name}
 use Rattle.ps_validate.proofs.Adding.{among-has, repeats-again}
-use Rattle.ps_validate.specs.Columns.{IsRepeatError}
+use Rattle.ps_validate.specs.Columns.{IsRepeatError, absent_from, with_kinds}
 use Rattle.ps_validate.specs.Fields.{IsPushError}
 
 -- a field by its name and its kind
@@ -43,10 +43,6 @@ module _ (pushed : Fields → Fields) (before all : Fields) (i : ℕ) (now : Fie
   here : drop i all ≡ (n, k) ∷ drop (i + 1) all
   here = rest-from all i (n, k) (field-is (slice_get all i) n k is_name is_kind)
 
-  -- a field gives none
-  pub push-none : pushed ((n, k) ∷ drop (i + 1) all) ≡ pushed (drop (i + 1) all) → Pushing pushed before all (i + 1) now
-  push-none skip = record { rest = ap (λ fs. now ++ fs) (sym skip) ∙ ap (λ fs. now ++ pushed fs) (sym here) ∙ p.rest }
-
   -- a field gives one
   pub push-one : (x : Name × DataType) (then : Fields) → pushed ((n, k) ∷ drop (i + 1) all) ≡ x ∷ pushed (drop (i + 1) all) → then ≡ now ++ x ∷ [] → Pushing pushed before all (i + 1) then
   push-one x then one added =
@@ -68,3 +64,34 @@ module _ (pushed : Fields → Fields) (before all : Fields) (i : ℕ) (now : Fie
   push-refused-one at x (error.ComputeError node why) one h = absurd h
   push-refused-one at x (error.ShapeMismatch node) one h = absurd h
   push-refused-one at x (error.OutOfBounds node why) one h = absurd h
+
+-- a field by its name alone
+named-field : {A B : Type 0} (o : Option (A × B)) (a : A) → option_map (λ (f : A × B). f.0) o ≡ Some a → (b : B) × (option_map (λ (f : A × B). f.1) o ≡ Some b)
+named-field None a h = cc
+named-field (Some f) a h = (f.1, refl)
+
+-- a field gives none
+pub push-none : (pushed : Fields → Fields) (before all : Fields) (i : ℕ) (now : Fields) (n : Name) → option_map (λ (f : Name × DataType). f.0) (slice_get all i) ≡ Some n → Pushing pushed before all i now → ((k : DataType) → pushed ((n, k) ∷ drop (i + 1) all) ≡ pushed (drop (i + 1) all)) → Pushing pushed before all (i + 1) now
+push-none pushed before all i now n is_name p skip =
+    let kind = named-field (slice_get all i) n is_name in
+    let here = rest-from all i (n, kind.0) (field-is (slice_get all i) n kind.0 is_name kind.1) in
+    record { rest = ap (λ fs. now ++ fs) (sym (skip kind.0)) ∙ ap (λ fs. now ++ pushed fs) (sym here) ∙ p.rest }
+
+-- what a field gives
+pub absent-one : (s fs : Fields) (n : Name) (k : DataType) → has_name n s ≡ false → absent_from s ((n, k) ∷ fs) ≡ (n, k) ∷ absent_from s fs
+absent-one s fs n k h = ap (λ b. if not b then (n, k) ∷ absent_from s fs else absent_from s fs) h
+
+pub absent-none : (s fs : Fields) (n : Name) (k : DataType) → has_name n s ≡ true → absent_from s ((n, k) ∷ fs) ≡ absent_from s fs
+absent-none s fs n k h = ap (λ b. if not b then (n, k) ∷ absent_from s fs else absent_from s fs) h
+
+pub without-one : (ns : List Name) (fs : Fields) (n : Name) (k : DataType) → is_among n ns ≡ false → without ns ((n, k) ∷ fs) ≡ (n, k) ∷ without ns fs
+without-one ns fs n k h = ap (λ b. if not b then (n, k) ∷ without ns fs else without ns fs) h
+
+pub without-none : (ns : List Name) (fs : Fields) (n : Name) (k : DataType) → is_among n ns ≡ true → without ns ((n, k) ∷ fs) ≡ without ns fs
+without-none ns fs n k h = ap (λ b. if not b then (n, k) ∷ without ns fs else without ns fs) h
+
+pub kinds-one : (others fs : Fields) (n : Name) (k j : DataType) → unwrap_or (field_kind n others) k ≡ j → with_kinds others ((n, k) ∷ fs) ≡ (n, j) ∷ with_kinds others fs
+kinds-one others fs n k j h = ap (λ i. (n, i) ∷ with_kinds others fs) h
+
+pub suffixed-one : (suffix : Name) (taken fs : Fields) (n m : Name) (k : DataType) (b : Bool) → has_name n taken ≡ b → (if b then n ++ suffix else n) ≡ m → suffixed suffix (names_of taken) ((n, k) ∷ fs) ≡ (m, k) ∷ suffixed suffix (names_of taken) fs
+suffixed-one suffix taken fs n m k b h is = ap (λ c. ((if c then n ++ suffix else n), k) ∷ suffixed suffix (names_of taken) fs) (among-has n taken ∙ h) ∙ ap (λ x. (x, k) ∷ suffixed suffix (names_of taken) fs) is

@@ -58,7 +58,7 @@ module _ (s : Fields) (exact : (t : Tree) → is_some (kind_over s t) ≡ is_acc
       let p = both-some e.0 (kind_over s e.1) (fields_of es s) fs h in
       elim (or_cases (reads_column n e.1) (list_any (reads_column n) (exprs_of es)) r) [ inl a ↦ reads-nothing e.1 p.0 n p.2 lacks a | inr b ↦ reads-none es p.1 n p.3 lacks b ]
 
-  breaks-none : (es : List Named) (fs : Fields) → fields_of es s ≡ Some fs → break_rules s (exprs_of es) ≡ true → ⊥
+  pub breaks-none : (es : List Named) (fs : Fields) → fields_of es s ≡ Some fs → break_rules s (exprs_of es) ≡ true → ⊥
   breaks-none [] fs h r = cc
   breaks-none (e ∷ es) fs h r =
       let p = both-some e.0 (kind_over s e.1) (fields_of es s) fs h in
@@ -74,7 +74,7 @@ module _ (s : Fields) (exact : (t : Tree) → is_some (kind_over s t) ≡ is_acc
       not-there false q = refl
 
 -- what has a kind holds nothing that is left out
-refuses-left : (s : Fields) (w : What) → is_refused s (Tree.left_out w) ≡ true
+pub refuses-left : (s : Fields) (w : What) → is_refused s (Tree.left_out w) ≡ true
 refuses-left s w = refl
 
 module _ (s : Fields) (exact : (t : Tree) → is_some (kind_over s t) ≡ is_accepted s t) where

@@ -17,11 +17,11 @@ use Rattle.ps_validate.proofs.Adding.{among-has}
 use Rattle.ps_validate.proofs.Naming.{lacking}
 use Rattle.ps_validate.specs.Columns.{absent_from, with_kinds}
 
-not-there : (b : Bool) → not b ≡ true → b ≡ false
+pub not-there : (b : Bool) → not b ≡ true → b ≡ false
 not-there true q = sym q
 not-there false q = refl
 
-apart : (a b : Bool) → (a || b) ≡ false → (a ≡ false) × (b ≡ false)
+pub apart : (a b : Bool) → (a || b) ≡ false → (a ≡ false) × (b ≡ false)
 apart true b h = cc
 apart false b h = (refl, h)
 

@@ -1,6 +1,6 @@
 -- When no rule on names or kinds refuses a step, and which errors stand for such a rule.
 use Rattle.std.proofs.Common.{◌≡◌, ◌≢◌, List, [], ◌∷◌, Bool, true, false, Ok, Err, Result, refl, sym, subst, ◌∙◌, ap, arith, inl, inr}
-use Rattle.std.specs.Prelude.{Contains, IfErr, IsErrAnd, IsTrue, Option, Some, unwrap_or}
+use Rattle.std.specs.Prelude.{Contains, IfErr, IfOk, OnErr, OnOk, IsErrAnd, IsTrue, Option, Some, unwrap_or}
 use Rattle.pu_index.specs.declared.arena.Node.{Node}
 use Rattle.ps_frame.specs.Frames.{has_distinct_names}
 use Rattle.ps_frame.specs.Functions.{Functions}
@@ -22,6 +22,19 @@ use Rattle.ps_validate.specs.Nodes.{GivesSchema, HoldsLeftOut, IsNodeError}
 pub passed-on : {T : Type 0} (P : PolarsError → Type 0) (x : PolarsError) (r : Result T PolarsError) → IsErrAnd r (λ y. y ≡ x) → P x → IfErr r P
 passed-on P x (Ok y) h p = absurd h
 passed-on P x (Err y) h p = subst P (sym h) p
+
+pub memory-on : {T : Type 0} (x : PolarsError) (r : Result T PolarsError) → IsErrAnd r (λ y. y ≡ x) → x ≡ error.OutOfMemory → OnErr r (r ≡ Err error.OutOfMemory)
+memory-on x (Ok y) h p = tt
+memory-on x (Err y) h p = ap Err (h ∙ p)
+
+pub if-err : {T : Type 0} {P : PolarsError → Type 0} (Q : PolarsError → Type 0) (r : Result T PolarsError) → IfErr r P → ((e : PolarsError) → P e → Q e) → IfErr r Q
+if-err Q (Ok y) h p = tt
+if-err Q (Err e) h p = p e h
+
+-- what holds of a schema that has columns holds of the answer
+pub answered : (P : Fields → Type 0) (s : Fields) (r : Result Fields PolarsError) → IfOk r (λ t. t ≡ s) → OnOk r (s ≢ []) → (s ≢ [] → P s) → IfOk r P
+answered P s (Ok t) same some p = subst P (sym same) (p some)
+answered P s (Err e) same some p = tt
 
 -- the schema that a step gives, which has columns of different names
 pub record Shown (F : Functions) (step : Step) (ss : List Fields) (s : Fields) : Type 0 where

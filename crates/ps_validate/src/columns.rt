@@ -132,10 +132,8 @@ pub fn push_with_kinds(
 {
     for i in 0..fields.len() {
         let name = fields.name(i);
-        let dtype = match kind_of(kinds, name.as_str()) {
-            Some(dtype) => dtype,
-            None => fields.kind(i),
-        };
+        let kept = fields.kind(i);
+        let dtype = kind_of(kinds, name.as_str()).unwrap_or(kept);
         push_copy(alloc, at, schema, name, dtype)?;
     }
     Ok(())

@@ -10,9 +10,7 @@ use ps_frame::schema::Schema;
 use pu_index::Node;
 use std::alloc::Global;
 
-/// The schema of a function at the node `at`: the one that it declares. The function isn't called.
-///
-/// Refused where the function declares none, or one without columns. Else it fails only for want of memory.
+/// The schema of a function: the one that it declares. The function isn't called.
 pub fn function_schema<F: Functions>(
     alloc: Global,
     at: Node,
@@ -26,7 +24,7 @@ pub fn function_schema<F: Functions>(
 {
     match functions.schema(alloc, n, input) {
         Ok(schema) => {
-            crate::shim::names_differ(&schema);
+            schema.names_differ();
             some_columns(at, schema)
         }
         Err(CallError::Fault) => Err(PolarsError::SchemaMismatch { node: at }),

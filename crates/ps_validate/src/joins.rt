@@ -53,7 +53,7 @@ fn without_keys(
     ensures columns { IfOk result (λ s. s ≡ without (bare_names (key_trees (tree_at arena.now) keys.now)) schema.now) }
     ensures memory { OnErr result (result ≡ Err PolarsError.OutOfMemory) }
 {
-    crate::shim::names_differ(schema);
+    schema.names_differ();
     let names = column_names(alloc, keys, arena)?;
     let mut columns = Schema::new(alloc);
     push_without(alloc, at, &mut columns, schema, &names)?;
@@ -104,12 +104,8 @@ fn right_columns(
     }
 }
 
-/// The schema of a join at the node `at`: the left side's columns, and then the right side's, with a suffix where their
-/// names stand on the left. There are as many keys on both sides.
-///
-/// A refusal stands for a rule on names or kinds that the join breaks, or for a part of a key that is left out; any one
-/// that holds may be answered. Else it fails only for want of memory. A schema is answered only where no such rule
-/// refuses the join.
+/// The schema of a join with as many keys on both sides: the left side's columns, and then the right side's, with a
+/// suffix where their names stand on the left.
 pub fn join_schema<L: Ledger>(
     alloc: Global,
     at: Node,
@@ -138,6 +134,6 @@ pub fn join_schema<L: Ledger>(
     let added = right_columns(alloc, at, args.how, right_on, arena, right)?;
     let taken = cloned(alloc, &schema)?;
     push_suffixed(alloc, at, &mut schema, &added, &taken, suffix(args))?;
-    crate::shim::names_differ(&schema);
+    schema.names_differ();
     some_columns(at, schema)
 }

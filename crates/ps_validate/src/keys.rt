@@ -52,7 +52,15 @@ pub fn key_kinds<L: Ledger>(
 pub fn same_kinds(left: &[DataType], right: &[DataType]) -> bool
     ensures { IsTrue result ↔ (left.now ≡ right.now) }
 {
-    left == right
+    if left.len() != right.len() {
+        return false;
+    }
+    for i in 0..left.len() {
+        if left[i] != right[i] {
+            return false;
+        }
+    }
+    true
 }
 
 // The name of an expression that is a column.

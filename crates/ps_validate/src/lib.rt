@@ -9,6 +9,5 @@ pub mod joins;
 pub mod keys;
 pub mod projections;
 pub mod schemas;
-pub mod shim;
 pub mod stacks;
 pub mod table;

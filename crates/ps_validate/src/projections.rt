@@ -14,16 +14,17 @@ use pu_index::Node;
 use pu_order::PlSmallStr;
 use std::alloc::Global;
 
-/// The schema of a scan of all columns at the node `at`: that of the table, which is shared.
+/// The schema of a scan of all columns: that of the table, which is shared.
 pub fn scan_schema(alloc: Global, at: Node, df: &DataFrame) -> PolarsResult<Schema>
     ensures given { IfOk result (λ s. (F : Functions) → GivesSchema F (scan_step df.now None) [] s) }
     ensures refused { IfErr result (λ e. (F : Functions) → IsNodeError F at (scan_step df.now None) [] e) }
 {
-    crate::shim::names_differ(df.schema());
-    shared_columns(alloc, at, df.schema())
+    let schema = df.schema();
+    schema.names_differ();
+    shared_columns(alloc, at, schema)
 }
 
-/// The schema of a scan of named columns at the node `at`.
+/// The schema of a scan of named columns.
 pub fn named_scan_schema(
     alloc: Global,
     at: Node,
@@ -34,11 +35,11 @@ pub fn named_scan_schema(
     ensures refused { IfErr result (λ e. (F : Functions) → IsNodeError F at (scan_step df.now (Some names.now)) [] e) }
 {
     let schema = named_columns(alloc, at, names, df.schema())?;
-    crate::shim::names_differ(&schema);
+    schema.names_differ();
     some_columns(at, schema)
 }
 
-/// The schema of a projection at the node `at`.
+/// The schema of a projection.
 pub fn project_schema(
     alloc: Global,
     at: Node,
@@ -49,20 +50,20 @@ pub fn project_schema(
     ensures refused { IfErr result (λ e. (F : Functions) → IsNodeError F at (project_step names.now) (input.now ∷ []) e) }
 {
     let schema = named_columns(alloc, at, names, input)?;
-    crate::shim::names_differ(&schema);
+    schema.names_differ();
     some_columns(at, schema)
 }
 
-/// The schema of a distinct over all columns at the node `at`: that of the input, which is shared.
+/// The schema of a distinct over all columns: that of the input, which is shared.
 pub fn distinct_schema(alloc: Global, at: Node, input: &Schema) -> PolarsResult<Schema>
     ensures given { IfOk result (λ s. (F : Functions) (maintain : Bool) (keep : UniqueKeepStrategy) (cut : Cut) → GivesSchema F (distinct_step (record { subset = None; maintain_order = maintain; keep = keep; cut = cut })) (input.now ∷ []) s) }
     ensures refused { IfErr result (λ e. (F : Functions) (maintain : Bool) (keep : UniqueKeepStrategy) (cut : Cut) → IsNodeError F at (distinct_step (record { subset = None; maintain_order = maintain; keep = keep; cut = cut })) (input.now ∷ []) e) }
 {
-    crate::shim::names_differ(input);
+    input.names_differ();
     shared_columns(alloc, at, input)
 }
 
-/// The schema of a distinct over named columns at the node `at`: that of the input, which is shared.
+/// The schema of a distinct over named columns: that of the input, which is shared.
 pub fn named_distinct_schema(
     alloc: Global,
     at: Node,
@@ -72,7 +73,8 @@ pub fn named_distinct_schema(
     ensures given { IfOk result (λ s. (F : Functions) (maintain : Bool) (keep : UniqueKeepStrategy) (cut : Cut) → GivesSchema F (distinct_step (record { subset = Some names.now; maintain_order = maintain; keep = keep; cut = cut })) (input.now ∷ []) s) }
     ensures refused { IfErr result (λ e. (F : Functions) (maintain : Bool) (keep : UniqueKeepStrategy) (cut : Cut) → IsNodeError F at (distinct_step (record { subset = Some names.now; maintain_order = maintain; keep = keep; cut = cut })) (input.now ∷ []) e) }
 {
-    crate::shim::names_differ(input);
-    named_columns(alloc, at, names, input)?;
+    let columns = named_columns(alloc, at, names, input)?;
+    columns.names_differ();
+    input.names_differ();
     shared_columns(alloc, at, input)
 }

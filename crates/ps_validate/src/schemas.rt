@@ -45,7 +45,7 @@ pub fn select_schema<L: Ledger>(
     kinds_are_exact();
     let mut schema = Schema::new(alloc);
     push_typed(alloc, at, exprs, arena, input, &mut schema, steps)?;
-    crate::shim::names_differ(&schema);
+    schema.names_differ();
     some_columns(at, schema)
 }
 
@@ -68,7 +68,7 @@ pub fn filter_schema<L: Ledger>(
     if typed.dtype != DataType::Boolean {
         return Err(PolarsError::SchemaMismatch { node: at });
     }
-    crate::shim::names_differ(input);
+    input.names_differ();
     shared_columns(alloc, at, input)
 }
 
@@ -88,7 +88,7 @@ pub fn sort_schema<L: Ledger>(
 {
     kinds_are_exact();
     key_kinds(alloc, at, keys, arena, input, steps)?;
-    crate::shim::names_differ(input);
+    input.names_differ();
     shared_columns(alloc, at, input)
 }
 
@@ -141,7 +141,7 @@ pub fn group_by_schema<L: Ledger>(
         return Err(PolarsError::SchemaMismatch { node: at });
     }
     check_aggregates(at, aggs, arena, steps)?;
-    crate::shim::names_differ(&schema);
+    schema.names_differ();
     some_columns(at, schema)
 }
 
@@ -150,6 +150,6 @@ pub fn passed_schema(alloc: Global, at: Node, input: &Schema) -> PolarsResult<Sc
     ensures given { IfOk result (λ s. (F : Functions) (step : Step) → PassesColumns step → GivesSchema F step (input.now ∷ []) s) }
     ensures refused { IfErr result (λ e. (F : Functions) (step : Step) → PassesColumns step → IsNodeError F at step (input.now ∷ []) e) }
 {
-    crate::shim::names_differ(input);
+    input.names_differ();
     shared_columns(alloc, at, input)
 }

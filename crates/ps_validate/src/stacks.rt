@@ -24,7 +24,7 @@ use pu_order::{PlSmallStr, Steps};
 use std::alloc::Global;
 use std::sync::ledger::Ledger;
 
-/// The schema of an hstack at the node `at`: the input's columns, with those of the expressions in the place of equal
+/// The schema of an hstack: the input's columns, with those of the expressions in the place of equal
 /// names, and then the new ones.
 pub fn hstack_schema<L: Ledger>(
     alloc: Global,
@@ -42,16 +42,16 @@ pub fn hstack_schema<L: Ledger>(
     kinds_are_exact();
     let mut stacked = Schema::new(alloc);
     push_typed(alloc, at, exprs, arena, input, &mut stacked, steps)?;
+    input.names_differ();
+    stacked.names_differ();
     let mut schema = Schema::new(alloc);
     push_with_kinds(alloc, at, &mut schema, input, &stacked)?;
     push_absent(alloc, at, &mut schema, &stacked, input)?;
-    crate::shim::names_differ(input);
-    crate::shim::names_differ(&stacked);
-    crate::shim::names_differ(&schema);
+    schema.names_differ();
     some_columns(at, schema)
 }
 
-/// The schema of a row index at the node `at`: the index, and then the input's columns.
+/// The schema of a row index: the index, and then the input's columns.
 pub fn row_index_schema(
     alloc: Global,
     at: Node,
@@ -64,7 +64,7 @@ pub fn row_index_schema(
     let mut schema = Schema::new(alloc);
     push_copy(alloc, at, &mut schema, name, DataType::IdxSize)?;
     push_all(alloc, at, &mut schema, input)?;
-    crate::shim::names_differ(&schema);
+    schema.names_differ();
     Ok(schema)
 }
 
@@ -82,7 +82,7 @@ fn are_alike(inputs: &[Node], schemas: &Schemas, schema: &Schema) -> bool
     true
 }
 
-/// The schema of a union at the node `at`: that of its first input, which is shared.
+/// The schema of a union, which has an input: that of its first input, which is shared.
 pub fn union_schema(
     alloc: Global,
     at: Node,
@@ -94,15 +94,18 @@ pub fn union_schema(
     ensures given { IfOk result (λ s. (F : Functions) (cut : Cut) → GivesSchema F (union_step cut) (schemas_in schemas.now inputs.now) s) }
     ensures refused { IfErr result (λ e. (F : Functions) (cut : Cut) → IsNodeError F at (union_step cut) (schemas_in schemas.now inputs.now) e) }
 {
-    let first = schemas.get(inputs[0]);
-    if !are_alike(inputs, schemas, first) {
+    let Some((first, others)) = inputs.split_first() else {
+        unreachable!();
+    };
+    let schema = schemas.get(*first);
+    if !are_alike(others, schemas, schema) {
         return Err(PolarsError::SchemaMismatch { node: at });
     }
-    crate::shim::names_differ(first);
-    shared_columns(alloc, at, first)
+    schema.names_differ();
+    shared_columns(alloc, at, schema)
 }
 
-/// The schema of an hconcat at the node `at`: the columns of all inputs, in order.
+/// The schema of an hconcat: the columns of all inputs, in order.
 pub fn hconcat_schema(
     alloc: Global,
     at: Node,
@@ -117,6 +120,6 @@ pub fn hconcat_schema(
     for input in inputs {
         push_all(alloc, at, &mut schema, schemas.get(*input))?;
     }
-    crate::shim::names_differ(&schema);
+    schema.names_differ();
     some_columns(at, schema)
 }
