@@ -136,4 +136,3 @@ keys-names z s p ks none h = names-same s ks p (keys-fields z s p ks none h)
 -- the fields of both
 pub both-fields : (z s p q : Fields) (ks as' : List Named) → z ≡ [] → option_map (λ fs. z ++ fs) (fields_of ks s) ≡ Some p → option_map (λ fs. p ++ fs) (fields_of as' s) ≡ Some q → fields_of (ks ++ as') s ≡ Some q
 both-fields z s p q ks as' none h k = fields-append s ks as' p q (keys-fields z s p ks none h) k
-

@@ -69,7 +69,7 @@ module _ (l r : Fields) where
       let here : j ≡ k = cc in
       let later : js ≡ ks = cc in
       elim (or_cases (pair_differs (a, b)) (list_any pair_differs (zip as' bs)) d) [
-        inl x ↦ (let q : not (same_kind j k) ≡ true = sym (ap (λ o. refuses_pair same_kind o (kind_over r b)) left ∙ ap (λ o. refuses_pair same_kind (Some j) o) right) ∙ x in
+        | inl x ↦ (let q : not (same_kind j k) ≡ true = sym (ap (λ o. refuses_pair same_kind o (kind_over r b)) left ∙ ap (λ o. refuses_pair same_kind (Some j) o) right) ∙ x in
             let y : not true ≡ true = ap not (sym (same-self k) ∙ ap (λ i. same_kind i k) (sym here)) ∙ q in cc)
         | inr x ↦ pairs-same as' bs js ks more others later x
       ]

@@ -37,7 +37,7 @@ module _ (f : Node → Tree) (w : What) where
   list-holds [] c = absurd (no-item left c)
   list-holds (n ∷ ns) c =
       elim (Contains-append_cases (tree_parts (f n)) (trees_parts (trees_of f ns)) left c) [
-        inl h ↦ (n, contains-first n.0 (numbers ns), h)
+        | inl h ↦ (n, contains-first n.0 (numbers ns), h)
         | inr h ↦ (let deeper = list-holds ns h in (deeper.0, contains-later n.0 deeper.0.0 (numbers ns) deeper.1, deeper.2))
       ]
 
@@ -50,18 +50,18 @@ module _ (f : Node → Tree) (w : What) where
   two-hold : (x : AExpr) (l r : Node) → operands x ≡ l ∷ r ∷ [] → Contains (tree_parts (f l) ++ tree_parts (f r)) left → HeldBelow f x w
   two-hold x l r is c =
       elim (Contains-append_cases (tree_parts (f l)) (tree_parts (f r)) left c) [
-        inl h ↦ (l, subst (λ ns. Contains (numbers ns) l.0) (sym is) (0, omega arith, refl), h)
+        | inl h ↦ (l, subst (λ ns. Contains (numbers ns) l.0) (sym is) (0, omega arith, refl), h)
         | inr h ↦ (r, subst (λ ns. Contains (numbers ns) r.0) (sym is) (1, omega arith, refl), h)
       ]
 
   three-hold : (x : AExpr) (a b c : Node) → operands x ≡ a ∷ b ∷ c ∷ [] → Contains (tree_parts (f a) ++ (tree_parts (f b) ++ tree_parts (f c))) left → HeldBelow f x w
   three-hold x a b c is h =
       elim (Contains-append_cases (tree_parts (f a)) (tree_parts (f b) ++ tree_parts (f c)) left h) [
-        inl p ↦ (a, subst (λ ns. Contains (numbers ns) a.0) (sym is) (0, omega arith, refl), p)
+        | inl p ↦ (a, subst (λ ns. Contains (numbers ns) a.0) (sym is) (0, omega arith, refl), p)
         | inr q ↦ elim (Contains-append_cases (tree_parts (f b)) (tree_parts (f c)) left q) [
-            inl p ↦ (b, subst (λ ns. Contains (numbers ns) b.0) (sym is) (1, omega arith, refl), p)
-            | inr p ↦ (c, subst (λ ns. Contains (numbers ns) c.0) (sym is) (2, omega arith, refl), p)
-          ]
+          | inl p ↦ (b, subst (λ ns. Contains (numbers ns) b.0) (sym is) (1, omega arith, refl), p)
+          | inr p ↦ (c, subst (λ ns. Contains (numbers ns) c.0) (sym is) (2, omega arith, refl), p)
+        ]
       ]
 
   aggregate-holds : (a : IRAggExpr) → Contains (tree_parts (aggregate_tree f a)) left → Contains (tree_parts (f (aggregate_operand a))) left
@@ -81,7 +81,7 @@ module _ (f : Node → Tree) (w : What) where
   entry-holds (expr.Sort e d n) c = inr (e, (0, omega arith, refl), below (Tree.sort d n (f e)) (tree_parts (f e)) (λ q. cc) c)
   entry-holds (expr.SortBy e by d n) c =
       inr (elim (Contains-append_cases (tree_parts (f e)) (trees_parts (trees_of f by)) left (below (Tree.sort_by d n (f e) (trees_of f by)) (tree_parts (f e) ++ trees_parts (trees_of f by)) (λ q. cc) c)) [
-        inl h ↦ (e, contains-first e.0 (numbers by), h)
+        | inl h ↦ (e, contains-first e.0 (numbers by), h)
         | inr h ↦ (let deeper = list-holds by h in (deeper.0, contains-later e.0 deeper.0.0 (numbers by) deeper.1, deeper.2))
       ])
   entry-holds (expr.Gather e i s) c = inr (two-hold (expr.Gather e i s) e i refl (below (Tree.gather s (f e) (f i)) (tree_parts (f e) ++ tree_parts (f i)) (λ q. cc) c))
@@ -105,7 +105,7 @@ module _ (plan : Plan) (w : What) where
   found-holds f n None is c deeper = absurd (missing-holds c)
   found-holds f n (Some x) is c deeper =
       elim (entry-holds f w x c) [
-        inl h ↦ (n, here, is ∙ ap Some h)
+        | inl h ↦ (n, here, is ∙ ap Some h)
         | inr h ↦ (let far = deeper h.0 h.2 in (far.0, onward (subst (λ (o : Option AExpr). Contains (named_by operands o) h.0.0) (sym is) h.1) far.1, far.2))
       ]
 

@@ -112,7 +112,7 @@ named-there [] s fs n h a = cc
 named-there (m ∷ ns) s fs n h a =
     let p = named-parts m (field_kind m s) (named_fields ns s) fs h in
     elim (or_cases (bytes_eq n m) (is_among n ns) a) [
-      inl x ↦ subst (λ m. has_name m s ≡ true) (sym ((bytes_eq-Decides n m).0 x)) (kind-has m s p.0 p.2)
+      | inl x ↦ subst (λ m. has_name m s ≡ true) (sym ((bytes_eq-Decides n m).0 x)) (kind-has m s p.0 p.2)
       | inr x ↦ named-there ns s p.1 n p.3 x
     ]
 

@@ -44,8 +44,8 @@ module _ (pushed : Fields → Fields) (before all : Fields) (i : ℕ) (now : Fie
   here = rest-from all i (n, k) (field-is (slice_get all i) n k is_name is_kind)
 
   -- a field gives one
-  pub push-one : (x : Name × DataType) (then : Fields) → pushed ((n, k) ∷ drop (i + 1) all) ≡ x ∷ pushed (drop (i + 1) all) → then ≡ now ++ x ∷ [] → Pushing pushed before all (i + 1) then
-  push-one x then one added =
+  pub push-one : (x : Name × DataType) (grown : Fields) → pushed ((n, k) ∷ drop (i + 1) all) ≡ x ∷ pushed (drop (i + 1) all) → grown ≡ now ++ x ∷ [] → Pushing pushed before all (i + 1) grown
+  push-one x grown one added =
       record { rest = ap (λ fs. fs ++ pushed (drop (i + 1) all)) added ∙ append_assoc now (x ∷ []) (pushed (drop (i + 1) all)) ∙ ap (λ fs. now ++ fs) (sym one) ∙ ap (λ fs. now ++ pushed fs) (sym here) ∙ p.rest }
 
   whole : (x : Name × DataType) → pushed ((n, k) ∷ drop (i + 1) all) ≡ x ∷ pushed (drop (i + 1) all) → names_of now ++ x.0 ∷ names_of (pushed (drop (i + 1) all)) ≡ names_of (before ++ pushed all)

@@ -122,6 +122,22 @@ module _ (F : Functions) (cut : Cut) where
   union-gives s ss all d some =
       gives-by F (union cut) (s ∷ ss) s (record { schema = refl; names = refl; distinct = d; some = some }) (λ m h. never h) (λ m h. h) (λ q. none-other s (s ∷ ss) all q) (λ h. never h) (λ h. h) none-left
 
+-- the first input, and the others
+pub first-known : (known : Known) (inputs : List Node) (n : Node) (rest : List Node) → inputs ≡ n ∷ rest → AreKnown known inputs → IsKnown known n
+first-known known inputs n rest is h = (subst (λ ns. AreKnown known ns) is h).0
+
+later-any : (P : Fields → Type 0) (s : Fields) (ss : List Fields) → Any P ss → Any P (s ∷ ss)
+later-any P s ss (k, x, within, is, h) = (suc k, x, omega (arith, within), is, h)
+
+module _ (F : Functions) (cut : Cut) (known : Known) (inputs : List Node) (n : Node) (rest : List Node) (is : inputs ≡ n ∷ rest) (s : Fields) (first : s ≡ schema_in known n) where
+  pub inputs-give : AllByRecursion (λ t. t ≡ s) (schemas_in known rest) → IsTrue (has_distinct_names s) → s ≢ [] → GivesSchema F (union cut) (schemas_in known inputs) s
+  inputs-give all d some =
+      subst (λ ns. GivesSchema F (union cut) (schemas_in known ns) s) (sym is) (subst (λ (t : Fields). GivesSchema F (union cut) (t ∷ schemas_in known rest) s) first (union-gives F cut s (schemas_in known rest) (refl, all) d some))
+
+  pub inputs-differ : (at : Node) → Any (λ t. t ≢ s) (schemas_in known rest) → IsNodeError F at (union cut) (schemas_in known inputs) (error.SchemaMismatch at)
+  inputs-differ at other =
+      subst (λ ns. IsNodeError F at (union cut) (schemas_in known ns) (error.SchemaMismatch at)) (sym is) (refl, inl (subst (λ (t : Fields). Any (λ u. u ≢ t) (schema_in known n ∷ schemas_in known rest)) first (later-any (λ u. u ≢ s) (schema_in known n) (schemas_in known rest) other)))
+
 -- the columns of all inputs
 module _ (F : Functions) (ss : List Fields) where
   pub hconcat-gives : (fs : Fields) → fs ≡ joined_schemas ss → IsTrue (has_distinct_names fs) → fs ≢ [] → GivesSchema F hconcat ss fs
@@ -133,8 +149,22 @@ map-place f [] i x h is = absurd (omega (arith, h))
 map-place f (y ∷ ys) zero x h is = ap f (sym is)
 map-place f (y ∷ ys) (suc i) x h is = map-place f ys i x (omega (arith, h)) is
 
+pub own-default : {A : Type 0} (xs : List A) (i : ℕ) (d : A) → i < length xs → get_or xs i d ≡ get_or xs i (get_or xs i d)
+own-default [] i d h = absurd (omega (arith, h))
+own-default (x ∷ xs) zero d h = refl
+own-default (x ∷ xs) (suc i) d h = own-default xs i d (omega (arith, h))
+
+abbrev pub input-at : List Node → ℕ → Node
+input-at inputs i = get_or inputs i (record { 0 = 0 })
+
 -- the inputs from i on are still to be looked at
-module _ (known : Known) (inputs : List Node) (i : ℕ) (n : Node) (within : i < length inputs) (is : n ≡ get_or inputs i n) where
+module _ (known : Known) (inputs : List Node) (i : ℕ) (within : i < length inputs) where
+  abbrev n : Node
+  n = input-at inputs i
+
+  is : n ≡ get_or inputs i n
+  is = own-default inputs i (record { 0 = 0 }) within
+
   rest-is : drop i inputs ≡ n ∷ drop (i + 1) inputs
   rest-is = drop-cons inputs i n within ∙ ap (λ m. m ∷ drop (suc i) inputs) (sym is) ∙ ap (λ j. n ∷ drop j inputs) (sym (add-one i))
 
@@ -164,3 +194,6 @@ module _ (known : Known) (inputs : List Node) (i : ℕ) (n : Node) (within : i <
       λ F. repeat-error F hconcat (schemas_in known inputs) now at e (names_of (joined_schemas (schemas_in known inputs))) refl
       (subst (λ fs. IsRepeatError at (names_of fs) e) (ap (λ t. (now ++ t) ++ joined_schemas (schemas_in known (drop (i + 1) inputs))) here ∙ append_assoc now (schema_in known n) (joined_schemas (schemas_in known (drop (i + 1) inputs))) ∙ ap (λ ns. now ++ joined_schemas (schemas_in known ns)) (sym rest-is) ∙ far)
       (repeat-beside at (now ++ t) (joined_schemas (schemas_in known (drop (i + 1) inputs))) e h))
+
+pub join-end : (known : Known) (inputs : List Node) (i : ℕ) (now : Fields) → i ≡ length inputs → now ++ joined_schemas (schemas_in known (drop i inputs)) ≡ joined_schemas (schemas_in known inputs) → now ≡ joined_schemas (schemas_in known inputs)
+join-end known inputs i now end far = sym (append-nil now) ∙ ap (λ ns. now ++ joined_schemas (schemas_in known ns)) (sym (ap (λ j. drop j inputs) end ∙ drop-length inputs)) ∙ far

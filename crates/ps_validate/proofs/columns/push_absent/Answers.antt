@@ -17,8 +17,8 @@ returns-in_err-push_copy-clause-refused c =
 pub loop-i-preserved : goal.loop-i-preserved
 loop-i-preserved c =
     elim c.if-not-contains.branch [
-      then-not-contains+in_ok-push_copy w ↦ subst (λ (s : Fields). Pushing (absent_from c.args.others.now) c.args.schema.now c.args.fields.now (c.loop-i.i + 1) s) (sym w.schema-is)
+      | then-not-contains+in_ok-push_copy w ↦ subst (λ (s : Fields). Pushing (absent_from c.args.others.now) c.args.schema.now c.args.fields.now (c.loop-i.i + 1) s) (sym w.schema-is)
           (push-one (absent_from c.args.others.now) c.args.schema.now c.args.fields.now c.loop-i.i c.loop-i.schema c.name-name.result.now w.kind.result c.name-name.ensures w.kind.ensures c.loop-i.invariant (c.name-name.result.now, w.kind.result) w.push_copy.new.schema (absent-one c.args.others.now (drop (c.loop-i.i + 1) c.args.fields.now) c.name-name.result.now w.kind.result (ap (λ (m : Name). has_name m c.args.others.now) (sym c.as_str.ensures) ∙ sym c.contains.ensures ∙ w.if-not-contains.true)) w.in_ok-push_copy.ensures.added)
       | else-not-contains w ↦ subst (λ (s : Fields). Pushing (absent_from c.args.others.now) c.args.schema.now c.args.fields.now (c.loop-i.i + 1) s) (sym w.schema-is)
-          (push-none (absent_from c.args.others.now) c.args.schema.now c.args.fields.now c.loop-i.i c.loop-i.schema c.name-name.result.now c.name-name.ensures  c.loop-i.invariant (λ k. absent-none c.args.others.now (drop (c.loop-i.i + 1) c.args.fields.now) c.name-name.result.now k (ap (λ (m : Name). has_name m c.args.others.now) (sym c.as_str.ensures) ∙ sym c.contains.ensures ∙ w.if-not-contains.false)))
+          (push-none (absent_from c.args.others.now) c.args.schema.now c.args.fields.now c.loop-i.i c.loop-i.schema c.name-name.result.now c.name-name.ensures c.loop-i.invariant (λ k. absent-none c.args.others.now (drop (c.loop-i.i + 1) c.args.fields.now) c.name-name.result.now k (ap (λ (m : Name). has_name m c.args.others.now) (sym c.as_str.ensures) ∙ sym c.contains.ensures ∙ w.if-not-contains.false)))
     ]

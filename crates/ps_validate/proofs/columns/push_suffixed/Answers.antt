@@ -22,7 +22,7 @@ returns-in_err-push_copy-clause-refused c =
 pub loop-i-preserved : goal.loop-i-preserved
 loop-i-preserved c =
     elim c.if-contains.branch [
-      then-contains+in_ok-longer+in_ok-push_field w ↦ subst (λ (s : Fields). Pushing (suffixed c.args.suffix.now (names_of c.args.taken.now)) c.args.schema.now c.args.fields.now (c.loop-i.i + 1) s) (sym w.schema-is)
+      | then-contains+in_ok-longer+in_ok-push_field w ↦ subst (λ (s : Fields). Pushing (suffixed c.args.suffix.now (names_of c.args.taken.now)) c.args.schema.now c.args.fields.now (c.loop-i.i + 1) s) (sym w.schema-is)
           (push-one (suffixed c.args.suffix.now (names_of c.args.taken.now)) c.args.schema.now c.args.fields.now c.loop-i.i c.loop-i.schema c.name-name.result.now w.kind.result c.name-name.ensures w.kind.ensures c.loop-i.invariant (w.in_ok-longer.longer, w.kind.result) w.push_field.new.schema (suffixed-one c.args.suffix.now c.args.taken.now (drop (c.loop-i.i + 1) c.args.fields.now) c.name-name.result.now w.in_ok-longer.longer w.kind.result true (ap (λ (m : Name). has_name m c.args.taken.now) (sym c.as_str.ensures) ∙ sym c.contains.ensures ∙ w.if-contains.true) (sym w.in_ok-longer.ensures.suffixed)) w.in_ok-push_field.ensures.added)
       | else-contains+in_ok-push_copy w ↦ subst (λ (s : Fields). Pushing (suffixed c.args.suffix.now (names_of c.args.taken.now)) c.args.schema.now c.args.fields.now (c.loop-i.i + 1) s) (sym w.schema-is)
           (push-one (suffixed c.args.suffix.now (names_of c.args.taken.now)) c.args.schema.now c.args.fields.now c.loop-i.i c.loop-i.schema c.name-name.result.now w.kind-else-contains.result c.name-name.ensures w.kind-else-contains.ensures c.loop-i.invariant (c.name-name.result.now, w.kind-else-contains.result) w.push_copy.new.schema (suffixed-one c.args.suffix.now c.args.taken.now (drop (c.loop-i.i + 1) c.args.fields.now) c.name-name.result.now c.name-name.result.now w.kind-else-contains.result false (ap (λ (m : Name). has_name m c.args.taken.now) (sym c.as_str.ensures) ∙ sym c.contains.ensures ∙ w.if-contains.false) refl) w.in_ok-push_copy.ensures.added)

@@ -16,8 +16,8 @@ returns-in_err-push_copy-clause-refused c =
 pub loop-i-preserved : goal.loop-i-preserved
 loop-i-preserved c =
     λ ns is. elim c.if-not-contains.branch [
-      then-not-contains+in_ok-push_copy w ↦ subst (λ (s : Fields). Pushing (without ns) c.args.schema.now c.args.fields.now (c.loop-i.i + 1) s) (sym w.schema-is)
+      | then-not-contains+in_ok-push_copy w ↦ subst (λ (s : Fields). Pushing (without ns) c.args.schema.now c.args.fields.now (c.loop-i.i + 1) s) (sym w.schema-is)
           (push-one (without ns) c.args.schema.now c.args.fields.now c.loop-i.i c.loop-i.schema c.name-name.result.now w.kind.result c.name-name.ensures w.kind.ensures (c.loop-i.invariant ns is) (c.name-name.result.now, w.kind.result) w.push_copy.new.schema (without-one ns (drop (c.loop-i.i + 1) c.args.fields.now) c.name-name.result.now w.kind.result (sym (is (c.name-name.result.now)) ∙ ap (contains_text c.args.hidden.now) (sym c.as_str.ensures) ∙ sym c.contains.ensures ∙ w.if-not-contains.true)) w.in_ok-push_copy.ensures.added)
       | else-not-contains w ↦ subst (λ (s : Fields). Pushing (without ns) c.args.schema.now c.args.fields.now (c.loop-i.i + 1) s) (sym w.schema-is)
-          (push-none (without ns) c.args.schema.now c.args.fields.now c.loop-i.i c.loop-i.schema c.name-name.result.now c.name-name.ensures  (c.loop-i.invariant ns is) (λ k. without-none ns (drop (c.loop-i.i + 1) c.args.fields.now) c.name-name.result.now k (sym (is (c.name-name.result.now)) ∙ ap (contains_text c.args.hidden.now) (sym c.as_str.ensures) ∙ sym c.contains.ensures ∙ w.if-not-contains.false)))
+          (push-none (without ns) c.args.schema.now c.args.fields.now c.loop-i.i c.loop-i.schema c.name-name.result.now c.name-name.ensures (c.loop-i.invariant ns is) (λ k. without-none ns (drop (c.loop-i.i + 1) c.args.fields.now) c.name-name.result.now k (sym (is (c.name-name.result.now)) ∙ ap (contains_text c.args.hidden.now) (sym c.as_str.ensures) ∙ sym c.contains.ensures ∙ w.if-not-contains.false)))
     ]

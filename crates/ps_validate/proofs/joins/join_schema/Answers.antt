@@ -9,7 +9,7 @@ use Rattle.ps_validate.proofs.Typed.{answered, passed-on}
 use Rattle.ps_validate.proofs.joins.join_schema.Goals as goal
 use Rattle.ps_validate.specs.Nodes.{GivesSchema, IsNodeError}
 use Rattle.std.proofs.Common.{◌≡◌, ◌≢◌, ◌∷◌, [], length, refl, sym, ◌∙◌}
-use Rattle.std.proofs.lemmas.Bool.{iff_false, iff_true}
+use Rattle.std.proofs.lemmas.Bool.{iff_false}
 
 pub returns-in_err-left_kinds-clause-refused : goal.returns-in_err-left_kinds-clause-refused
 returns-in_err-left_kinds-clause-refused g c =
@@ -37,4 +37,4 @@ returns-clause-given g c =
     let same : c.in_ok-left_kinds.left_kinds.items ≡ c.in_ok-right_kinds.right_kinds.items = sym c.deref.ensures.value ∙ c.same_kinds.ensures.0 c.if-not-same_kinds.false ∙ c.deref-2.ensures.value in
     answered (λ (s : Fields). (F : Functions) → GivesSchema F (join (record { left_on = key_trees (tree_at c.args.arena.now) c.args.left_on.now; right_on = key_trees (tree_at c.args.arena.now) c.args.right_on.now; args = c.args.args.now })) (c.args.left.now ∷ c.args.right.now ∷ []) s) c.push_suffixed.new.schema c.some_columns.result c.some_columns.ensures.same c.some_columns.ensures.some
     (λ some F. join-gives F c.args.at c.args.left.now c.args.right.now (record { left_on = key_trees (tree_at c.args.arena.now) c.args.left_on.now; right_on = key_trees (tree_at c.args.arena.now) c.args.right_on.now; args = c.args.args.now }) c.in_ok-schema.schema c.in_ok-added.added (c.in_ok-schema.ensures.columns (record { left_on = key_trees (tree_at c.args.arena.now) c.args.left_on.now; right_on = key_trees (tree_at c.args.arena.now) c.args.right_on.now; args = c.args.args.now }) refl) (c.in_ok-added.ensures.columns (record { left_on = key_trees (tree_at c.args.arena.now) c.args.left_on.now; right_on = key_trees (tree_at c.args.arena.now) c.args.right_on.now; args = c.args.args.now }) refl) c.suffix.result.now c.in_ok-taken.taken c.suffix.ensures c.in_ok-taken.ensures.same c.push_suffixed.new.schema
-        c.in_ok-left_kinds.left_kinds.items c.in_ok-right_kinds.right_kinds.items (λ t. c.kinds_are_exact.ensures c.args.left.now t) (λ t. c.kinds_are_exact.ensures c.args.right.now t) c.in_ok-left_kinds.ensures.kinds c.in_ok-right_kinds.ensures.kinds same c.in_ok-push_suffixed.ensures.added c.names_differ.ensures some)
+    c.in_ok-left_kinds.left_kinds.items c.in_ok-right_kinds.right_kinds.items (λ t. c.kinds_are_exact.ensures c.args.left.now t) (λ t. c.kinds_are_exact.ensures c.args.right.now t) c.in_ok-left_kinds.ensures.kinds c.in_ok-right_kinds.ensures.kinds same c.in_ok-push_suffixed.ensures.added c.names_differ.ensures some)

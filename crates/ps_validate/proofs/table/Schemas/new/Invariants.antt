@@ -2,4 +2,4 @@ use Rattle.ps_validate.proofs.table.Schemas.new.Given as goal
 use Rattle.std.proofs.Common.{◌≡◌, None, replicate}
 
 abbrev pub invariant-loop : goal.invariant-loop
-invariant-loop l = ?
+invariant-loop l = l.table.items ≡ replicate l.counter None
