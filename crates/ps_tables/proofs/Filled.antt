@@ -5,7 +5,7 @@ use Rattle.std.specs.List.{AllByRecursion, list_any}
 use Rattle.std.proofs.Math.ListN.{length-replicate}
 use Rattle.std.proofs.Math.Seq.{take-suc}
 use Rattle.std.proofs.lemmas.List.{append-nil, get_or-map, length-map, map-append}
-use Rattle.std.proofs.lemmas.List.Sums.{take_while-cons}
+use Rattle.std.proofs.lemmas.List.Sums.{fold-append, take_while-cons}
 use Rattle.std.proofs.lemmas.Simd.{map-map}
 use Rattle.ps_frame.specs.Aggregates.{max_rows}
 use Rattle.ps_frame.specs.Causes.{Column, value, cell_values, is_empty, is_ended, whole_column}
@@ -169,10 +169,6 @@ values-low : (h : ℕ) (fs : List Frame) → AllByRecursion (λ (f : Frame). len
 values-low h [] low = tt
 values-low h (f ∷ fs) low = all-append (λ (vs : List Value). length vs ≤ h) (columns_at f.rows (below (length f.schema))) (all_values fs) (columns-low h f.rows (below (length f.schema)) low.0) (values-low h fs low.1)
 
-fold-append : (a : ℕ) (ms ns : List ℕ) → fold max a (ms ++ ns) ≡ fold max (fold max a ms) ns
-fold-append a [] ns = refl
-fold-append a (m ∷ ms) ns = fold-append (max a m) ms ns
-
 abbrev lengths_at : List (List Value) → List ℕ → List ℕ
 lengths_at rows ks = map (λ (vs : List Value). length vs) (columns_at rows ks)
 
@@ -202,7 +198,7 @@ heights-same : (a : ℕ) (fs : List Frame) → AllByRecursion (λ (f : Frame). f
 heights-same a [] some = refl
 heights-same a (f ∷ fs) some =
     let ks = below (length f.schema) in
-    ap (fold max a) (map-append (λ (vs : List Value). length vs) (columns_at f.rows ks) (all_values fs)) ∙ fold-append a (lengths_at f.rows ks) (map (λ (vs : List Value). length vs) (all_values fs))
+    ap (fold max a) (map-append (λ (vs : List Value). length vs) (columns_at f.rows ks) (all_values fs)) ∙ fold-append max a (lengths_at f.rows ks) (map (λ (vs : List Value). length vs) (all_values fs))
     ∙ ap (λ b. fold max b (map (λ (vs : List Value). length vs) (all_values fs))) (some-columns a f.rows ks (below-some f.schema some.0)) ∙ heights-same (max a (length f.rows)) fs some.1
 
 -- The columns of one more table.
@@ -256,14 +252,6 @@ schemas-are : (fs : List Frame) → schemas_of (wholes fs) ≡ map (λ (f : Fram
 schemas-are [] = refl
 schemas-are (f ∷ fs) = ap (λ ss. f.schema ∷ ss) (schemas-are fs)
 
-pub some-fields : (fs : List Frame) (s : Fields) → fs ≢ [] → AllByRecursion (λ (f : Frame). f.schema ≢ []) fs → s ≡ joined_schemas (map (λ (f : Frame). f.schema) fs) → s ≢ []
-some-fields [] s some columns joined e = some refl
-some-fields (f ∷ fs) s some columns joined e = by f.schema columns.0 (sym joined ∙ e)
-  where
-    by : (r : Fields) → r ≢ [] → r ++ joined_schemas (map (λ (f : Frame). f.schema) fs) ≡ [] → ⊥
-    by [] some e = some refl
-    by (g ∷ r) some e = cc
-
 module _ (fs : List Frame) (s : Fields) (cs : List Typed) (h : ℕ) (columns : AllByRecursion (λ (f : Frame). f.schema ≢ []) fs) (joined : s ≡ joined_schemas (map (λ (f : Frame). f.schema) fs)) (greatest : h ≡ height_among 0 fs) (values : column_values cs ≡ map (filled h) (all_values fs)) where
   low : AllByRecursion (λ (vs : List Value). length vs ≤ h) (all_values fs)
   low = values-low h fs (each-low h 0 fs (omega arith))
@@ -271,9 +259,9 @@ module _ (fs : List Frame) (s : Fields) (cs : List Typed) (h : ℕ) (columns : A
   pub beside-frame : h ≤ max_rows → HasKinds (joined_schemas (map (λ (f : Frame). f.schema) fs)) cs → IsFrame s cs h
   beside-frame few kinds = record { kinds = kinds ∙ ap kinds_of (sym joined); heights = filled-heights h (all_values fs) cs values low; small = few }
 
-  pub beside-gives : (F : Functions) (at : ℕ) (f : Frame) → f.schema ≡ s → ((n : ℕ) → AllOfHeight n cs → f.rows ≡ rows_of n (column_values cs)) → GivesFrame F at hconcat fs f
+  pub beside-gives : (F : Functions) (at : ℕ) (f : Frame) → f.schema ≡ s → f.rows ≡ rows_of h (column_values cs) → GivesFrame F at hconcat fs f
   beside-gives F at f schema made =
-      let rows : f.rows ≡ map (row_at (all_values fs)) (below h) = made h (filled-heights h (all_values fs) cs values low) ∙ ap (rows_of h) values ∙ rows-filled h (all_values fs) low in
+      let rows : f.rows ≡ map (row_at (all_values fs)) (below h) = made ∙ ap (rows_of h) values ∙ rows-filled h (all_values fs) low in
       let height : greatest_length (all_values fs) ≡ h = heights-same 0 fs columns ∙ sym greatest in
       let zip : (zipped true at (all_columns (wholes fs))).rows ≡ map (row_at (all_values fs)) (below h) =
       ap (λ cs. (zipped true at cs).rows) (all-whole fs) ∙ zipped-rows at (all_values fs) ∙ ap (λ n. map (row_at (all_values fs)) (below n)) height in

@@ -40,22 +40,27 @@ abbrev no_number : ℕ → Cause
 no_number at = record { fault = fault.RowIndex; node = at }
 
 -- The columns of a table behind its numbers.
-module _ (t : Frame) (cs all : List Typed) (s : Fields) (name : Name) (c : Typed) (o : Option ℕ) (fields : IsFrame t.schema cs (length t.rows)) (schema : s ≡ (name, kind.IdxSize) ∷ t.schema) (kinds : c.kind ≡ kind.IdxSize) (values : c.values ≡ numbers_from (unwrap_or o 0) (length t.rows)) (all-are : all ≡ c ∷ cs) where
-  pub index-frame : IsFrame s all (length t.rows)
-  index-frame = subst (λ all. IsFrame s all (length t.rows)) (sym all-are) (record {
+module _ (t : Frame) (cs all : List Typed) (s : Fields) (name : Name) (c : Typed) (o : Option ℕ) (h : ℕ) (high : h ≡ length t.rows) (fields : IsFrame t.schema cs (length t.rows)) (schema : s ≡ (name, kind.IdxSize) ∷ t.schema) (kinds : c.kind ≡ kind.IdxSize) (values : c.values ≡ numbers_from (unwrap_or o 0) h) (all-are : all ≡ c ∷ cs) where
+  pub index-frame : IsFrame s all h
+  index-frame = subst (λ all. IsFrame s all h) (sym all-are) (record {
     kinds = (λ i. kinds i ∷ fields.kinds i) ∙ sym (ap (map (λ field. field.1)) schema);
-    heights = (ap length values ∙ numbers-length (unwrap_or o 0) (length t.rows), fields.heights);
-    small = fields.small;
+    heights = (ap length values ∙ numbers-length (unwrap_or o 0) h, subst (λ n. AllOfHeight n cs) (sym high) fields.heights);
+    small = subst (λ n. n ≤ max_rows) (sym high) fields.small;
   })
 
-  pub index-gives : (F : Functions) (at : ℕ) (f : Frame) → t.rows ≡ rows_of (length t.rows) (column_values cs) → length t.rows ≤ max_rows - unwrap_or o 0 → f.schema ≡ s → ((h : ℕ) → AllOfHeight h all → f.rows ≡ rows_of h (column_values all))
-      → GivesFrame F at (row_index name o) (t ∷ []) f
+  pub index-gives : (F : Functions) (at : ℕ) (f : Frame) → t.rows ≡ rows_of (length t.rows) (column_values cs) → length t.rows ≤ max_rows - unwrap_or o 0 → f.schema ≡ s → f.rows ≡ rows_of h (column_values all) → GivesFrame F at (row_index name o) (t ∷ []) f
   index-gives F at f rows few same made = (whole f, inl (λ i. table ((same ∙ schema) i) (rows-are i) (none i)), refl)
     where
+      numbers-are : c.values ≡ numbers_from (unwrap_or o 0) (length t.rows)
+      numbers-are = values ∙ ap (numbers_from (unwrap_or o 0)) high
+
+      others-are : rows_of h (column_values cs) ≡ t.rows
+      others-are = ap (λ n. rows_of n (column_values cs)) high ∙ sym rows
+
       rows-are : f.rows ≡ numbered (unwrap_or o 0) (take (max_rows - unwrap_or o 0) t.rows)
       rows-are =
-          made (length t.rows) index-frame.heights ∙ ap (λ all. rows_of (length t.rows) (column_values all)) all-are ∙ ap (beside c.values) (sym rows)
-          ∙ ap (λ vs. beside vs t.rows) values ∙ sym (numbered-beside (unwrap_or o 0) t.rows) ∙ ap (numbered (unwrap_or o 0)) (sym (take_all (max_rows - unwrap_or o 0) t.rows few))
+          made ∙ ap (λ all. rows_of h (column_values all)) all-are ∙ (λ i. beside (numbers-are i) (others-are i)) ∙ sym (numbered-beside (unwrap_or o 0) t.rows)
+          ∙ ap (numbered (unwrap_or o 0)) (sym (take_all (max_rows - unwrap_or o 0) t.rows few))
 
       none : [] ≡ (if nat_lt (max_rows - unwrap_or o 0) (length t.rows) then no_number at ∷ [] else [])
       none = ap (λ b. if b then no_number at ∷ [] else []) (sym (le-ltb _ _ few))

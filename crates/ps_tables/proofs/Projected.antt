@@ -31,13 +31,13 @@ pub rows-picked : (rows : List (List Value)) (ks : List ℕ) → rows_of (length
 rows-picked rows [] = no-columns rows
 rows-picked rows (k ∷ ks) = ap (beside (values_at k rows)) (rows-picked rows ks) ∙ beside-picked k ks rows
 
-pub heights-at : (rows : List (List Value)) (ks : List ℕ) (cs : List Typed) → column_values cs ≡ columns_at rows ks → AllOfHeight (length rows) cs
-heights-at rows ks [] e = tt
-heights-at rows [] (c ∷ cs) e = cc
-heights-at rows (k ∷ ks) (c ∷ cs) e =
+pub heights-at : (rows : List (List Value)) (ks : List ℕ) (cs : List Typed) (h : ℕ) → h ≡ length rows → column_values cs ≡ columns_at rows ks → AllOfHeight h cs
+heights-at rows ks [] h high e = tt
+heights-at rows [] (c ∷ cs) h high e = cc
+heights-at rows (k ∷ ks) (c ∷ cs) h high e =
     let first : c.values ≡ values_at k rows = cc in
     let rest : column_values cs ≡ columns_at rows ks = cc in
-    (ap length first ∙ length-map rows (λ row. get_or row k val.Null), heights-at rows ks cs rest)
+    (ap length first ∙ length-map rows (λ row. get_or row k val.Null) ∙ sym high, heights-at rows ks cs h high rest)
 
 -- the values of one more column
 pub values-step : (rows : List (List Value)) (ns : List Name) (s : Fields) (i : ℕ) (n : Name) (c : Typed) (cs new : List Typed) → i < length ns → n ≡ get_or ns i n → c.values ≡ values_at (unwrap_or (field_index n s) 0) rows
@@ -51,13 +51,13 @@ values-step rows ns s i n c cs new h is values before grown =
     rw add-one (ap column_values grown ∙ map-append (λ (c : Typed). c.values) cs (c ∷ []) ∙ (λ i. before i ++ values i ∷ []) ∙ sym more)
 
 -- Columns of names are a table, and its rows are those of the step.
-module _ (t : Frame) (ns : List Name) (out : Fields) (cs : List Typed) (found : named_fields ns t.schema ≡ Some out) (values : column_values cs ≡ columns_at t.rows (places_in ns t.schema)) where
-  pub named-frame : length t.rows ≤ max_rows → HasKinds out cs → IsFrame out cs (length t.rows)
-  named-frame small kinds = record { kinds = kinds; heights = heights-at t.rows (places_in ns t.schema) cs values; small = small }
+module _ (t : Frame) (ns : List Name) (out : Fields) (cs : List Typed) (found : named_fields ns t.schema ≡ Some out) (values : column_values cs ≡ columns_at t.rows (places_in ns t.schema)) (h : ℕ) (high : h ≡ length t.rows) where
+  pub named-frame : h ≤ max_rows → HasKinds out cs → IsFrame out cs h
+  named-frame small kinds = record { kinds = kinds; heights = heights-at t.rows (places_in ns t.schema) cs h high values; small = small }
 
-  module _ (f : Frame) (schema : f.schema ≡ out) (rows : (h : ℕ) → AllOfHeight h cs → f.rows ≡ rows_of h (column_values cs)) where
+  module _ (f : Frame) (schema : f.schema ≡ out) (rows : f.rows ≡ rows_of h (column_values cs)) where
     rows-are : f.rows ≡ map (picked (places_in ns t.schema)) t.rows
-    rows-are = rows (length t.rows) (heights-at t.rows (places_in ns t.schema) cs values) ∙ ap (rows_of (length t.rows)) values ∙ rows-picked t.rows (places_in ns t.schema)
+    rows-are = rows ∙ (λ i. rows_of (high i) (values i)) ∙ rows-picked t.rows (places_in ns t.schema)
 
     schema-is : f.schema ≡ unwrap_or (named_fields ns t.schema) []
     schema-is = schema ∙ ap (λ o. unwrap_or o []) (sym found)

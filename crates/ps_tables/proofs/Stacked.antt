@@ -6,7 +6,7 @@ use Rattle.std.proofs.Math.Seq.{take-suc}
 use Rattle.std.proofs.lemmas.List.{append-nil, map-append}
 use Rattle.std.proofs.lemmas.Option.{same_Some}
 use Rattle.ps_frame.specs.Aggregates.{max_rows}
-use Rattle.ps_frame.specs.Frames.{AllOfHeight, HasKinds, IsFrame, column_values, kinds_of}
+use Rattle.ps_frame.specs.Frames.{HasKinds, IsFrame, column_values, kinds_of}
 use Rattle.ps_frame.specs.Functions.{Functions}
 use Rattle.ps_frame.specs.Lawful.{FitsFrame, FitsKinds}
 use Rattle.ps_frame.specs.Tables.{Fields, Frame, rows_of, values_at, whole}
@@ -128,14 +128,12 @@ picked-all s (row ∷ rows) p =
     λ i. same i ∷ picked-all s rows p.1 i
 
 -- The columns of tables of one schema.
-module _ (s : Fields) (fs : List Frame) (cs : List Typed) (alike : AllByRecursion (λ (f : Frame). f.schema ≡ s) fs) (fit : AllByRecursion FitsFrame fs) (values : column_values cs ≡ columns_at (all_rows fs) (below (length s))) where
-  pub joined-frame : length (all_rows fs) ≤ max_rows → HasKinds s cs → IsFrame s cs (length (all_rows fs))
-  joined-frame few kinds = record { kinds = kinds; heights = heights-at (all_rows fs) (below (length s)) cs values; small = few }
+module _ (s : Fields) (fs : List Frame) (cs : List Typed) (h : ℕ) (high : h ≡ length (all_rows fs)) (values : column_values cs ≡ columns_at (all_rows fs) (below (length s))) where
+  pub joined-frame : h ≤ max_rows → HasKinds s cs → IsFrame s cs h
+  joined-frame few kinds = record { kinds = kinds; heights = heights-at (all_rows fs) (below (length s)) cs h high values; small = few }
 
-  pub joined-rows : (f : Frame) → ((h : ℕ) → AllOfHeight h cs → f.rows ≡ rows_of h (column_values cs)) → f.rows ≡ all_rows fs
-  joined-rows f made =
-      made (length (all_rows fs)) (heights-at (all_rows fs) (below (length s)) cs values) ∙ ap (rows_of (length (all_rows fs))) values ∙ rows-picked (all_rows fs) (below (length s))
-      ∙ picked-all s (all_rows fs) (rows-fit s fs alike fit)
+  pub joined-rows : AllByRecursion (λ (f : Frame). f.schema ≡ s) fs → AllByRecursion FitsFrame fs → rows_of h (column_values cs) ≡ all_rows fs
+  joined-rows alike fit = (λ i. rows_of (high i) (values i)) ∙ rows-picked (all_rows fs) (below (length s)) ∙ picked-all s (all_rows fs) (rows-fit s fs alike fit)
 
 -- the union of whole tables
 union-rows : (fs : List Frame) → ((union_rows (wholes fs)).rows ≡ all_rows fs) × ((union_rows (wholes fs)).broken ≡ [])

@@ -11,7 +11,7 @@ ghost use Rattle.ps_plan.specs.Schemas.{joined_schemas};
 ghost use Rattle.ps_plan.specs.Steps.{hconcat as hconcat_step};
 ghost use Rattle.ps_tables.specs.Columns.{all_values, filled as filled_values, filled_to};
 
-use crate::framed::{column_of_values, frame_of_columns, shared};
+use crate::framed::{column_of_values, frame_of_height, shared};
 use ps_frame::column::Column;
 use ps_frame::frame::DataFrame;
 use ps_frame::refusal::{PolarsError, PolarsResult};
@@ -24,7 +24,6 @@ use std::alloc::Global;
 ///
 /// Fails only for want of memory.
 pub fn hconcat(alloc: Global, inputs: &[DataFrame], schema: &Schema) -> PolarsResult<DataFrame>
-    requires some { inputs.now ≢ [] }
     requires columns { AllByRecursion (λ (f : Frame). f.schema ≢ []) inputs.now }
     requires joined { schema.now ≡ joined_schemas (map (λ (f : Frame). f.schema) inputs.now) }
     ensures table { IfOk result (λ f. (F : Functions) (at : ℕ) → GivesFrame F at hconcat_step inputs.now f) }
@@ -32,7 +31,7 @@ pub fn hconcat(alloc: Global, inputs: &[DataFrame], schema: &Schema) -> PolarsRe
 {
     let height = greatest_height(inputs);
     let columns = side_by_side(alloc, inputs, height)?;
-    frame_of_columns(alloc, schema, columns)
+    frame_of_height(alloc, schema, columns, height)
 }
 
 fn greatest_height(inputs: &[DataFrame]) -> usize

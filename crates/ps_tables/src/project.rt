@@ -1,5 +1,5 @@
 // The named columns of a table.
-ghost use Rattle.std.specs.Prelude.{◌≡◌, ◌≢◌, ◌∷◌, [], Err, IfOk, IsSome, OnErr, Some, map, unwrap_or, ℕ};
+ghost use Rattle.std.specs.Prelude.{◌≡◌, ◌∷◌, [], Err, IfOk, IsSome, OnErr, Some, map, unwrap_or, ℕ};
 ghost use Rattle.ps_frame.specs.Frames.{HasKinds, column_values};
 ghost use Rattle.ps_frame.specs.Functions.{Functions};
 ghost use Rattle.ps_frame.specs.Tables.{field_index, field_kind, values_at};
@@ -8,7 +8,7 @@ ghost use Rattle.ps_plan.specs.Nodes.{GivesFrame};
 ghost use Rattle.ps_plan.specs.Schemas.{named_fields};
 ghost use Rattle.ps_plan.specs.Steps.{project as project_step, scan as scan_step};
 
-use crate::framed::{frame_of_columns, shared};
+use crate::framed::{frame_of_height, shared};
 use ps_frame::column::Column;
 use ps_frame::frame::DataFrame;
 use ps_frame::refusal::{PolarsError, PolarsResult};
@@ -26,15 +26,13 @@ pub fn project(
     names: &[PlSmallStr],
     schema: &Schema,
 ) -> PolarsResult<DataFrame>
-    requires found { named_fields names.now df.now.schema ≡ Some schema.now }
-    requires columns { schema.now ≢ [] }
+    requires { named_fields names.now df.now.schema ≡ Some schema.now }
     ensures scan { IfOk result (λ f. (F : Functions) (at : ℕ) → GivesFrame F at (scan_step df.now (Some names.now)) [] f) }
     ensures projection { IfOk result (λ f. (F : Functions) (at : ℕ) → GivesFrame F at (project_step names.now) (df.now ∷ []) f) }
     ensures memory { OnErr result (result ≡ Err PolarsError.OutOfMemory) }
 {
-    let _height = df.height();
     let columns = named_columns(alloc, df, names, schema)?;
-    frame_of_columns(alloc, schema, columns)
+    frame_of_height(alloc, schema, columns, df.height())
 }
 
 fn named_columns(

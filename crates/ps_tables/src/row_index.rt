@@ -7,7 +7,7 @@ ghost use Rattle.ps_plan.specs.Nodes.{GivesFrame, MayFault};
 ghost use Rattle.ps_plan.specs.Steps.{row_index as row_index_step};
 ghost use Rattle.ps_tables.specs.Numbers.{numbers_from};
 
-use crate::framed::{column_of_values, frame_of_columns, shared};
+use crate::framed::{column_of_values, frame_of_height, shared};
 use ps_frame::column::Column;
 use ps_frame::frame::DataFrame;
 use ps_frame::refusal::{Bound, PolarsError, PolarsResult};
@@ -42,7 +42,7 @@ pub fn row_index(
     }
     let numbers = numbers(alloc, first, height)?;
     let columns = in_front(alloc, numbers, df.get_columns())?;
-    frame_of_columns(alloc, schema, columns)
+    frame_of_height(alloc, schema, columns, height)
 }
 
 // The numbers from one on, as many as asked.

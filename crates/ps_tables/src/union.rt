@@ -14,7 +14,7 @@ ghost use Rattle.ps_tables.specs.Columns.{all_rows};
 
 use crate::cut::cut;
 use crate::fits::tables_fit;
-use crate::framed::{column_of_values, frame_of_columns};
+use crate::framed::{column_of_values, frame_of_height};
 use crate::pass::pass;
 use ps_frame::column::Column;
 use ps_frame::frame::DataFrame;
@@ -38,7 +38,6 @@ pub fn union(
 ) -> PolarsResult<DataFrame>
     requires some { inputs.now ≢ [] }
     requires alike { AllByRecursion (λ (f : Frame). f.schema ≡ schema.now) inputs.now }
-    requires columns { schema.now ≢ [] }
     ensures table { IfOk result (λ f. (F : Functions) → GivesFrame F at.0 (union_step slice) inputs.now f) }
     ensures fault { IfErr result (λ e. (F : Functions) → MayFault F at.0 (union_step slice) inputs.now e) }
 {
@@ -72,7 +71,6 @@ fn one_after_another(
     height: usize,
 ) -> PolarsResult<DataFrame>
     requires alike { AllByRecursion (λ (f : Frame). f.schema ≡ schema.now) inputs.now }
-    requires columns { schema.now ≢ [] }
     requires counted { height ≡ length (all_rows inputs.now) }
     requires few { height ≤ max_rows }
     ensures schema { IfOk result (λ f. f.schema ≡ schema.now) }
@@ -86,7 +84,7 @@ fn one_after_another(
     }
     tables_fit(inputs);
     let columns = joined_columns(alloc, inputs, schema, height)?;
-    frame_of_columns(alloc, schema, columns)
+    frame_of_height(alloc, schema, columns, height)
 }
 
 fn joined_columns(
