@@ -1,0 +1,4 @@
+pub mod Standing
+pub mod ByRow
+pub mod Ignoring
+pub mod RowLaws

@@ -1,0 +1,4 @@
+// How the column of an expression follows the rows of its table.
+#![tactic(auto)]
+
+pub mod laws;
