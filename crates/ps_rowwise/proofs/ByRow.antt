@@ -24,35 +24,35 @@ use Rattle.ps_rowwise.specs.Rows.{HasKind}
 use Rattle.ps_rowwise.proofs.Standing.{AllStand, Operand, Stands, stands-cellwise}
 
 -- operands of what has a kind have one
-binary-kinds : (o : Operator) (a b : Option DataType) → IsTrue (is_some (binary_kind o a b)) → IsTrue (is_some a) × IsTrue (is_some b)
+pub binary-kinds : (o : Operator) (a b : Option DataType) → IsTrue (is_some (binary_kind o a b)) → IsTrue (is_some a) × IsTrue (is_some b)
 binary-kinds o None b h = cc
 binary-kinds o (Some a) None h = cc
 binary-kinds o (Some a) (Some b) h = (refl, refl)
 
-cast-kinds : (k : DataType) (a : Option DataType) → IsTrue (is_some (cast_kind k a)) → IsTrue (is_some a)
+pub cast-kinds : (k : DataType) (a : Option DataType) → IsTrue (is_some (cast_kind k a)) → IsTrue (is_some a)
 cast-kinds k None h = cc
 cast-kinds k (Some a) h = refl
 
-if-kind : (b : Bool) (k : Option DataType) → IsTrue (is_some (kind_if b k)) → (b ≡ true) × IsTrue (is_some k)
+pub if-kind : (b : Bool) (k : Option DataType) → IsTrue (is_some (kind_if b k)) → (b ≡ true) × IsTrue (is_some k)
 if-kind true k h = (refl, h)
 if-kind false k h = cc
 
-some-kind : (k : DataType) (a : Option DataType) → is_kind k a ≡ true → IsTrue (is_some a)
+pub some-kind : (k : DataType) (a : Option DataType) → is_kind k a ≡ true → IsTrue (is_some a)
 some-kind k None h = cc
 some-kind k (Some a) h = refl
 
-branch-kinds : (a b : Option DataType) → IsTrue (is_some (branch_kind a b)) → IsTrue (is_some a) × IsTrue (is_some b)
+pub branch-kinds : (a b : Option DataType) → IsTrue (is_some (branch_kind a b)) → IsTrue (is_some a) × IsTrue (is_some b)
 branch-kinds None b h = cc
 branch-kinds (Some a) None h = cc
 branch-kinds (Some a) (Some b) h = (refl, refl)
 
-ternary-kinds : (p a b : Option DataType) → IsTrue (is_some (kind_if (is_kind kind.Boolean p) (branch_kind a b))) → IsTrue (is_some p) × IsTrue (is_some a) × IsTrue (is_some b)
+pub ternary-kinds : (p a b : Option DataType) → IsTrue (is_some (kind_if (is_kind kind.Boolean p) (branch_kind a b))) → IsTrue (is_some p) × IsTrue (is_some a) × IsTrue (is_some b)
 ternary-kinds p a b h =
     let k = if-kind (is_kind kind.Boolean p) (branch_kind a b) h in
     let j = branch-kinds a b k.1 in
     (some-kind kind.Boolean p k.0, j.0, j.1)
 
-function-kinds : (g : FunctionExpr) (a : Option DataType) → IsTrue (is_some (function_kind g a)) → IsTrue (is_some a)
+pub function-kinds : (g : FunctionExpr) (a : Option DataType) → IsTrue (is_some (function_kind g a)) → IsTrue (is_some a)
 function-kinds fun.Not a h = some-kind kind.Boolean a (if-kind (is_kind kind.Boolean a) (Some kind.Boolean) h).0
 function-kinds fun.IsNull a h = (if-kind (is_some a) (Some kind.Boolean) h).0
 function-kinds fun.IsNotNull a h = (if-kind (is_some a) (Some kind.Boolean) h).0
@@ -68,7 +68,7 @@ place-of name (f ∷ fs) h = by (bytes_eq name f.0) (place-of name fs) h
     by false rest h = rest h
 
 -- tests of two parts
-both : (a b : Bool) → (a && b) ≡ true → (a ≡ true) × (b ≡ true)
+pub both : (a b : Bool) → (a && b) ≡ true → (a ≡ true) × (b ≡ true)
 both true b h = (refl, h)
 both false b h = cc
 

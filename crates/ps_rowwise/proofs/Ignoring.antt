@@ -12,10 +12,7 @@ use Rattle.ps_frame.specs.Trees.{Tree, Trees}
 use Rattle.ps_frame.specs.Typing.{aggregate_kind, binary_kind, branch_kind, cast_kind, every_part_of_all, fits_keys, function_kind, have_kinds, is_independent, is_kind, is_scalar, kind_if, kind_over, reads_no_input, tree_count}
 use Rattle.ps_frame.specs.Zip.{zipped}
 use Rattle.ps_frame.specs.declared.value.DataType.TheVariants as kind
-
-both : (a b : Bool) → (a && b) ≡ true → (a ≡ true) × (b ≡ true)
-both true b h = (refl, h)
-both false b h = cc
+use Rattle.ps_rowwise.proofs.ByRow.{both}
 
 abbrev AreIndependent : Trees → Type 0
 AreIndependent ts = every_part_of_all reads_no_input ts ≡ true

@@ -2,3 +2,4 @@ pub mod Standing
 pub mod ByRow
 pub mod Ignoring
 pub mod RowLaws
+pub mod OneCell

@@ -29,7 +29,7 @@ abbrev one : Extent
 one = record { ended = false; len = 1 }
 
 -- the lengths that pass a test
-lengths-same : (test : Extent → Bool) (n : ℕ) (es : List Extent) → AllByRecursion (λ (e : Extent). test e ≡ true → e.len ≡ n) es → AllByRecursion (λ m. m ≡ n) (lengths_where test es)
+pub lengths-same : (test : Extent → Bool) (n : ℕ) (es : List Extent) → AllByRecursion (λ (e : Extent). test e ≡ true → e.len ≡ n) es → AllByRecursion (λ m. m ≡ n) (lengths_where test es)
 lengths-same test n [] all = tt
 lengths-same test n (e ∷ es) all = by (lengths-same test n es all.1) (test e) refl
   where
@@ -41,7 +41,7 @@ fold-least : (n : ℕ) (ns : List ℕ) → AllByRecursion (λ m. m ≡ n) ns →
 fold-least n [] all = refl
 fold-least n (m ∷ ms) all = let e : min n m ≡ n = (let q = all.0 in omega arith) in ap (λ k. fold min k ms) e ∙ fold-least n ms all.1
 
-least-same : (n : ℕ) (ns : List ℕ) → AllByRecursion (λ m. m ≡ n) ns → (ns ≡ [] → n ≡ 1) → least_or 1 ns ≡ n
+pub least-same : (n : ℕ) (ns : List ℕ) → AllByRecursion (λ m. m ≡ n) ns → (ns ≡ [] → n ≡ 1) → least_or 1 ns ≡ n
 least-same n [] all h = sym (h refl)
 least-same n (m ∷ ms) all h = ap (λ k. fold min k ms) all.0 ∙ fold-least n ms all.1
 
