@@ -1,6 +1,10 @@
 pub mod Adding
+pub mod Arms
 pub mod BareNames
+pub mod Caching
+pub mod Checking
 pub mod Distinctness
+pub mod Fitting
 pub mod Grouping
 pub mod Joining
 pub mod KeyCounts
@@ -8,6 +12,7 @@ pub mod Keying
 pub mod LeftOuts
 pub mod Naming
 pub mod Passing
+pub mod Planning
 pub mod Projecting
 pub mod Pushing
 pub mod Selected
@@ -15,4 +20,7 @@ pub mod Selecting
 pub mod Sorting
 pub mod Stacked
 pub mod Stacking
+pub mod StepParts
 pub mod Typed
+pub mod Unrefused
+pub mod Weights
