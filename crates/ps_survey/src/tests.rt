@@ -3,6 +3,7 @@ ghost use Rattle.std.specs.Prelude.{◌≡◌, ◌<◌};
 
 use crate::survey::survey_plan;
 use ps_frame::expr::{AExpr, What};
+use ps_frame::items::Items;
 use ps_plan::ir::{ExprIR, IR, OutputName, UnionOptions};
 use pu_index::{Arena, Node};
 use pu_order::{PlSmallStr, Steps};
@@ -53,7 +54,7 @@ fn slice(input: usize) -> IR {
 
 fn twice(alloc: Global, input: usize) -> Result<IR, AllocError> {
     Ok(IR::Union {
-        inputs: vec![in alloc; Node(input), Node(input)]?,
+        inputs: Items::new(vec![in alloc; Node(input), Node(input)]?),
         options: UnionOptions { slice: None },
     })
 }

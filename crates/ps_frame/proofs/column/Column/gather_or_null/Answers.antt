@@ -1,0 +1,11 @@
+use Rattle.std.proofs.Common.{IsTrue, refl}
+use Rattle.ps_frame.proofs.Gathers.{list_all-gathered_or_null, list_all-picked}
+use Rattle.ps_frame.specs.Typed.{all_fit}
+use Rattle.ps_frame.specs.Values.{fits_kind}
+use Rattle.ps_frame.proofs.column.Column.gather_or_null.Goals as goal
+
+pub of_run-requires : goal.of_run-requires
+of_run-requires c =
+    let a = c.self.inside in
+    let mine : IsTrue (all_fit a.dtype c.args.self.now.values) = rw (← c.self.view_is) (list_all-picked (fits_kind a.dtype) a.places a.run refl c.self.invariant.1) in
+    rw (c.in_ok-run.ensures.made, c.in_ok-values.ensures.picked) (list_all-gathered_or_null (fits_kind a.dtype) c.args.self.now.values c.args.rows.now refl mine)

@@ -1,0 +1,7 @@
+pub mod SameRows
+pub mod RowValues
+pub mod FirstRows
+pub mod Numberings
+pub mod KeyChains
+pub mod Places
+pub mod Parts

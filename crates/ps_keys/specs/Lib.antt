@@ -1,0 +1,4 @@
+pub mod Numbering
+pub mod Hashes
+pub mod Chains
+pub mod KeyRows

@@ -1,0 +1,9 @@
+pub mod Called
+pub mod Cuts
+pub mod Filled
+pub mod Fitting
+pub mod Named
+pub mod Numbered
+pub mod Projected
+pub mod Results
+pub mod Stacked

@@ -1,0 +1,5 @@
+pub mod Meanings
+pub mod Choosing
+pub mod Walks
+pub mod Clean
+pub mod Fits

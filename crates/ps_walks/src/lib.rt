@@ -1,0 +1,6 @@
+// What holds of the nodes of a plan one by one, and then of the plan.
+#![tactic(auto)]
+
+pub mod accepted;
+pub mod computed;
+pub mod fit;
