@@ -28,11 +28,13 @@ use Rattle.ps_plan.proofs.Unfolding.{complete-is, plan_at-is}
 use Rattle.ps_survey.proofs.Lists.{from-at, same-or-not, slice_get-set_other, slice_get-set_same}
 use Rattle.ps_survey.specs.Flaws.{Flaw}
 use Rattle.ps_survey.specs.Surveys.{IsSurvey}
+use Rattle.ps_walks.specs.Accepted.{schemas_at}
+use Rattle.ps_walks.specs.Fit.{HasSchemas, plan_schemas}
 use Rattle.ps_validate.proofs.LeftOuts.{first-or-later, no-item}
 use Rattle.ps_validate.proofs.Unrefused.{StandsFor, entry-error, part-error, place-error, unrefused}
 use Rattle.ps_validate.proofs.Weights.{entry_weight, order-weighs, weight}
 use Rattle.ps_validate.specs.Checks.{IsCheckError, IsChecked}
-use Rattle.ps_validate.specs.Fit.{HaveOneInput, IsFit, IsPlaced}
+use Rattle.ps_validate.specs.Fit.{HaveOneInput, IsWellFormed, IsPlaced}
 use Rattle.ps_validate.specs.Known.{AreKnown, IsKnown, Known, schema_in, schemas_in}
 use Rattle.ps_validate.specs.Nodes.{GivesSchema, IsNodeError}
 use Rattle.ps_validate.specs.Valid.{HaveSchemas, IsPlanError}
@@ -50,6 +52,7 @@ module _ (F : Functions) (plan : Plan) where
   pub record IsDone (known : Known) (n : ℕ) : Type 0 where
     pub schema : slice_get known n ≡ Some (Some (tree_schema F (tree_of plan n)))
     pub clean : IsClean F plan (tree_of plan n)
+    pub gives : (e : IR) → slice_get plan.nodes n ≡ Some e → output_schema F (entry_step (tree_at plan.exprs) e) (schemas_at (plan_schemas F plan) (entry_inputs e)) ≡ Some (tree_schema F (tree_of plan n))
 
   -- the nodes of an order before i are done
   pub record Checking (order : List ℕ) (i : ℕ) (known : Known) (first steps : ℕ) : Type 0 where
@@ -71,6 +74,11 @@ module _ (F : Functions) (plan : Plan) (order : List ℕ) (survey : IsSurvey pla
     inputs-schemas [] done = refl
     inputs-schemas (n ∷ ns) done =
         ap (λ (o : Option (Option Fields)). unwrap_or (unwrap_or o None) [] ∷ schemas_in known ns) (done n.0 (contains-first n.0 (numbers ns))).schema ∙ ap (λ ss. tree_schema F (tree_of plan n.0) ∷ ss) (inputs-schemas ns (λ m c. done m (contains-later n.0 m (numbers ns) c)))
+
+    inputs-at : (ns : List Node) → ((m : ℕ) → Contains (numbers ns) m → IsDone F plan known m) → schemas_in known ns ≡ schemas_at (plan_schemas F plan) ns
+    inputs-at [] done = refl
+    inputs-at (n ∷ ns) done =
+        ap (λ (o : Option (Option Fields)). unwrap_or (unwrap_or o None) [] ∷ schemas_in known ns) (done n.0 (contains-first n.0 (numbers ns))).schema ∙ ap (λ ss. tree_schema F (tree_of plan n.0) ∷ ss) (inputs-at ns (λ m c. done m (contains-later n.0 m (numbers ns) c)))
 
     inputs-clean : (ns : List Node) → ((m : ℕ) → Contains (numbers ns) m → IsDone F plan known m) → AreClean F plan (plan_trees_of (plan_at plan.nodes plan.exprs) ns)
     inputs-clean [] done = tt
@@ -109,7 +117,7 @@ module _ (F : Functions) (plan : Plan) (order : List ℕ) (survey : IsSurvey pla
     below-clean = inputs-clean known (entry_inputs e) done-inputs
 
     -- the node is done
-    module _ (s : Fields) (placed : IsPlaced plan.root (record { 0 = n }) step') (fit : IsFit F.count step' (entry_inputs e)) (given : GivesSchema F step' (schemas_in known (entry_inputs e)) s) where
+    module _ (s : Fields) (placed : IsPlaced plan.root (record { 0 = n }) step') (fit : IsWellFormed F.count step' (entry_inputs e)) (given : GivesSchema F step' (schemas_in known (entry_inputs e)) s) where
       node-clean : IsClean F plan (tree_of plan n)
       node-clean =
           subst (λ t. IsClean F plan t) (sym made) (
@@ -121,6 +129,12 @@ module _ (F : Functions) (plan : Plan) (order : List ℕ) (survey : IsSurvey pla
       node-schema : tree_schema F (tree_of plan n) ≡ s
       node-schema = ap (tree_schema F) made ∙ ap (λ ss. unwrap_or (output_schema F step' ss) []) (sym same-schemas) ∙ ap (λ o. unwrap_or o []) given.schema
 
+      own-gives : (x : IR) → slice_get plan.nodes n ≡ Some x → output_schema F (entry_step (tree_at plan.exprs) x) (schemas_at (plan_schemas F plan) (entry_inputs x)) ≡ Some (tree_schema F (tree_of plan n))
+      own-gives x found =
+          let same : e ≡ x = (let q : Some e ≡ Some x = sym is ∙ found in cc) in
+          subst (λ x. output_schema F (entry_step (tree_at plan.exprs) x) (schemas_at (plan_schemas F plan) (entry_inputs x)) ≡ Some (tree_schema F (tree_of plan n))) same
+          (ap (output_schema F step') (sym (inputs-at known (entry_inputs e) done-inputs)) ∙ given.schema ∙ ap Some (sym node-schema))
+
       pub node-done : (then : Known) (more : ℕ) → then ≡ set known n (Some s) → n < length known → more ≤ (steps + 1) + 2 * all_sizes (step_exprs step') → Checking F plan order (i + 1) then first more
       node-done then more written within few =
           record {
@@ -130,11 +144,11 @@ module _ (F : Functions) (plan : Plan) (order : List ℕ) (survey : IsSurvey pla
           }
         where
           own-done : IsDone F plan then n
-          own-done = record { schema = ap (λ (k : Known). slice_get k n) written ∙ slice_get-set_same known n (Some s) within ∙ ap (λ s. Some (Some s)) (sym node-schema); clean = node-clean }
+          own-done = record { schema = ap (λ (k : Known). slice_get k n) written ∙ slice_get-set_same known n (Some s) within ∙ ap (λ s. Some (Some s)) (sym node-schema); clean = node-clean; gives = own-gives }
 
           other-done : (m : ℕ) → IsDone F plan known m → (m ≡ n) ⊎ (m ≢ n) → IsDone F plan then m
           other-done m d (inl same) = subst (λ (k : ℕ). IsDone F plan then k) (sym same) own-done
-          other-done m d (inr ne) = record { schema = ap (λ (k : Known). slice_get k m) written ∙ slice_get-set_other known n m (Some s) ne ∙ d.schema; clean = d.clean }
+          other-done m d (inr ne) = record { schema = ap (λ (k : Known). slice_get k m) written ∙ slice_get-set_other known n m (Some s) ne ∙ d.schema; clean = d.clean; gives = d.gives }
 
           done-all : (m : ℕ) → Contains (take (i + 1) order) m → IsDone F plan then m
           done-all m c = elim (take-next order i n m at c) [ inl d ↦ other-done m (checking.done m d) (same-or-not m n) | inr same ↦ subst (λ (k : ℕ). IsDone F plan then k) same own-done ]
@@ -185,6 +199,9 @@ module _ (F : Functions) (plan : Plan) (order : List ℕ) (survey : IsSurvey pla
 
     pub checked-schemas : HaveSchemas F plan known
     checked-schemas n reached = (all-done n reached).schema
+
+    pub checked-typed : HasSchemas F plan
+    checked-typed n e reached is = (all-done n reached).gives e is
 
     pub checked-valid : IsValid F plan
     checked-valid n R refused =

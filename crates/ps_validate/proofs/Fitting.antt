@@ -17,7 +17,7 @@ use Rattle.ps_plan.specs.declared.ir.FunctionIR.TheVariants as call
 use Rattle.ps_plan.specs.declared.ir.IR.{IR}
 use Rattle.ps_plan.specs.declared.ir.IR.TheVariants as entry
 use Rattle.ps_validate.specs.Entries.{IsStepError}
-use Rattle.ps_validate.specs.Fit.{IsEntryError, IsFit}
+use Rattle.ps_validate.specs.Fit.{IsEntryError, IsWellFormed}
 
 -- what a step is refused for by itself its entry is refused for
 pub step-error : (count : ℕ) (at : Node) (step : Step) (inputs : List Node) (e : PolarsError) → IsStepError at step e → IsEntryError count at step inputs e

@@ -6,6 +6,7 @@ pub mod Checking
 pub mod Distinctness
 pub mod Fitting
 pub mod Grouping
+pub mod Growing
 pub mod Joining
 pub mod KeyCounts
 pub mod Keying
@@ -20,6 +21,7 @@ pub mod Selecting
 pub mod Sorting
 pub mod Stacked
 pub mod Stacking
+pub mod Staying
 pub mod StepParts
 pub mod Typed
 pub mod Unrefused

@@ -28,7 +28,7 @@ use Rattle.ps_survey.specs.Flaws.{Flaw, root_missing as root_flaw, input_missing
 use Rattle.ps_validate.proofs.LeftOuts.{held-above, no-item, tree-holds}
 use Rattle.ps_validate.proofs.StepParts.{only-left_out, own-part, part-owner}
 use Rattle.ps_validate.specs.Entries.{IsUnsupportedStep}
-use Rattle.ps_validate.specs.Fit.{HaveOneInput, IsCacheAt, IsEntryError, IsFit, IsPlaceError, IsPlaced}
+use Rattle.ps_validate.specs.Fit.{HaveOneInput, IsCacheAt, IsEntryError, IsWellFormed, IsPlaceError, IsPlaced}
 use Rattle.ps_validate.specs.Nodes.{HoldsLeftOut}
 
 -- a node of a plan, with its entry
@@ -59,7 +59,7 @@ module _ (F : Functions) (plan : Plan) (n : ℕ) (e : IR) (is : slice_get plan.n
   inputs-none h = ap (named_by entry_inputs) is ∙ ap (λ ns. map (λ (n : Node). n.0) ns) h
 
   -- nothing of the arenas is refused at the node
-  module _ (reached : Reached plan n) (flaws : (w : Why) → Flaw plan n w → ⊥) (order : List ℕ) (stands : (m : ℕ) → Reached plan m → Contains order m) (caches : HaveOneInput plan.nodes order) (fit : IsFit F.count step (entry_inputs e)) (placed : IsPlaced plan.root (record { 0 = n }) step) (complete : AllByRecursion IsComplete (step_exprs step)) (supported : (w : What) → HoldsLeftOut step w → ⊥) where
+  module _ (reached : Reached plan n) (flaws : (w : Why) → Flaw plan n w → ⊥) (order : List ℕ) (stands : (m : ℕ) → Reached plan m → Contains order m) (caches : HaveOneInput plan.nodes order) (fit : IsWellFormed F.count step (entry_inputs e)) (placed : IsPlaced plan.root (record { 0 = n }) step) (complete : AllByRecursion IsComplete (step_exprs step)) (supported : (w : What) → HoldsLeftOut step w → ⊥) where
     in-shape : IsMisshapen F plan n → ⊥
     in-shape (root_missing same out) = flaws why.Shape (root_flaw same out)
     in-shape (input_missing m c out) = flaws why.Shape (input_flaw m c out)

@@ -12,7 +12,7 @@ use Rattle.ps_plan.specs.declared.ir.IR.{IR}
 use Rattle.ps_validate.specs.Entries.{IsStepError, IsUnsupportedStep}
 
 -- Keys and flags fit, there is a key and an input where one is needed, a function's number is below the count, and all of it is supported.
-pub record IsFit (count : ℕ) (step : Step) (inputs : List Node) : Type 0 where
+pub record IsWellFormed (count : ℕ) (step : Step) (inputs : List Node) : Type 0 where
   pub keys : ¬ HasBadKeys step
   pub key : ¬ HasNoKey step
   pub offset : ¬ HasNegativeOffset step

@@ -11,6 +11,7 @@ use Rattle.ps_plan.specs.Plans.{Plan, tree_of}
 use Rattle.ps_plan.specs.Refusals.{IsRefused, IsValid, Refusal}
 use Rattle.ps_plan.specs.Schemas.{tree_schema}
 use Rattle.ps_plan.specs.declared.ir.IR.{IR}
+use Rattle.ps_walks.specs.Fit.{HasSchemas}
 use Rattle.ps_validate.specs.Known.{Known}
 
 -- the schema of each node that the root leads to is known
@@ -31,7 +32,8 @@ pub record ValidNodes : Type 0 where
 abbrev pub plan_with : ValidNodes → List AExpr → Plan
 plan_with v exprs = record { nodes = v.nodes; exprs = exprs; root = v.root }
 
--- with these expressions the plan is valid, and the schemas are those of its nodes
+-- with these expressions the plan is valid, the schemas are those of its nodes, and each step has its schema over those of its inputs
 pub record IsValidWith (F : Functions) (v : ValidNodes) (exprs : List AExpr) : Type 0 where
   pub valid : IsValid F (plan_with v exprs)
   pub schemas : HaveSchemas F (plan_with v exprs) v.schemas
+  pub typed : HasSchemas F (plan_with v exprs)

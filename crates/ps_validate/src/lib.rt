@@ -8,6 +8,7 @@ pub mod fields;
 pub mod functions;
 pub mod joins;
 pub mod keys;
+pub mod laws;
 pub mod nodes;
 pub mod places;
 pub mod projections;

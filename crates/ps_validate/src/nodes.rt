@@ -5,7 +5,7 @@ ghost use Rattle.ps_frame.specs.Trees.{IsComplete, tree_at};
 ghost use Rattle.ps_plan.specs.Plans.{all_sizes};
 ghost use Rattle.ps_plan.specs.Steps.{entry_inputs, entry_step, step_exprs};
 ghost use Rattle.ps_validate.specs.Checks.{IsCheckError, IsChecked};
-ghost use Rattle.ps_validate.specs.Fit.{IsFit};
+ghost use Rattle.ps_validate.specs.Fit.{IsWellFormed};
 ghost use Rattle.ps_validate.specs.Known.{AreKnown, schemas_in};
 ghost use Rattle.ps_validate.specs.Nodes.{GivesSchema, IsNodeError};
 
@@ -38,7 +38,7 @@ fn node_schema<F: Functions, L: Ledger>(
     schemas: &Schemas,
     steps: &mut Steps<L>,
 ) -> PolarsResult<Schema>
-    requires fit { IsFit (F.counted functions.now) (entry_step (tree_at exprs.now) entry.now) (entry_inputs entry.now) }
+    requires fit { IsWellFormed (F.counted functions.now) (entry_step (tree_at exprs.now) entry.now) (entry_inputs entry.now) }
     requires complete { AllByRecursion IsComplete (step_exprs (entry_step (tree_at exprs.now) entry.now)) }
     requires known { AreKnown schemas.now (entry_inputs entry.now) }
     ensures given { IfOk result (λ s. GivesSchema (record { count = F.counted functions.now; streams = F.streams; answer = F.answer; declared = F.declared }) (entry_step (tree_at exprs.now) entry.now) (schemas_in schemas.now (entry_inputs entry.now)) s) }

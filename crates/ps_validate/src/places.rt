@@ -4,7 +4,7 @@ ghost use Rattle.pu_index.specs.declared.arena.Node.{Node};
 ghost use Rattle.ps_frame.specs.Trees.{Tree};
 ghost use Rattle.ps_plan.specs.Refusals.{IsSinkStep, NamesMissingFunction};
 ghost use Rattle.ps_plan.specs.Steps.{entry_inputs, entry_step, function_step};
-ghost use Rattle.ps_validate.specs.Fit.{IsEntryError, IsFit, IsPlaceError, IsPlaced};
+ghost use Rattle.ps_validate.specs.Fit.{IsEntryError, IsWellFormed, IsPlaceError, IsPlaced};
 
 use crate::entries::{
     check_distinct, check_group_by, check_join, check_sink, check_slice, check_sort, check_union,
@@ -50,7 +50,7 @@ fn check_inputs(at: Node, inputs: &[Node]) -> PolarsResult<()>
 
 /// Refuses a node whose entry doesn't fit by itself, where there are `count` functions.
 pub fn check_entry(at: Node, entry: &IR, count: usize) -> PolarsResult<()>
-    ensures fit { OnOk result ((f : Node → Tree) → IsFit count (entry_step f entry.now) (entry_inputs entry.now)) }
+    ensures fit { OnOk result ((f : Node → Tree) → IsWellFormed count (entry_step f entry.now) (entry_inputs entry.now)) }
     ensures refused { IfErr result (λ e. (f : Node → Tree) → IsEntryError count at (entry_step f entry.now) (entry_inputs entry.now) e) }
 {
     match entry {

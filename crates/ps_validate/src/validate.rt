@@ -7,6 +7,7 @@ ghost use Rattle.ps_plan.specs.Refusals.{IsValid};
 ghost use Rattle.ps_survey.specs.Counts.{all_names};
 ghost use Rattle.ps_survey.specs.Flaws.{Flaw, plan_of};
 ghost use Rattle.ps_survey.specs.Surveys.{IsSurvey};
+ghost use Rattle.ps_walks.specs.Fit.{HasSchemas};
 ghost use Rattle.ps_validate.specs.Fit.{HaveOneInput};
 ghost use Rattle.ps_validate.specs.Known.{IsKnown, schema_in};
 ghost use Rattle.ps_validate.specs.Valid.{HaveSchemas, IsPlanError, IsValidWith};
@@ -81,6 +82,7 @@ fn node_schemas<F: Functions, L: Ledger>(
     requires caches { HaveOneInput ir.now order.now }
     ensures valid { OnOk result (IsValid (record { count = F.counted functions.now; streams = F.streams; answer = F.answer; declared = F.declared }) (plan_of root ir.now exprs.now)) }
     ensures schemas { IfOk result (λ s. HaveSchemas (record { count = F.counted functions.now; streams = F.streams; answer = F.answer; declared = F.declared }) (plan_of root ir.now exprs.now) s) }
+    ensures typed { OnOk result (HasSchemas (record { count = F.counted functions.now; streams = F.streams; answer = F.answer; declared = F.declared }) (plan_of root ir.now exprs.now)) }
     ensures refused { IfErr result (λ e. IsPlanError (record { count = F.counted functions.now; streams = F.streams; answer = F.answer; declared = F.declared }) (plan_of root ir.now exprs.now) e) }
     ensures steps { steps.new ≤ steps.old + 2 * 65536 }
 {

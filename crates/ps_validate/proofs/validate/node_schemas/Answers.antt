@@ -5,7 +5,7 @@ use Rattle.ps_frame.specs.Trees.{tree_at}
 use Rattle.ps_plan.specs.Plans.{all_sizes}
 use Rattle.ps_plan.specs.Steps.{entry_step, step_exprs}
 use Rattle.ps_survey.specs.Flaws.{plan_of}
-use Rattle.ps_validate.proofs.Checking.{Checking, checked-schemas, checked-steps, checked-valid, node-complete, node-done, node-error, node-known, node-steps, place-within}
+use Rattle.ps_validate.proofs.Checking.{Checking, checked-schemas, checked-steps, checked-typed, checked-valid, node-complete, node-done, node-error, node-known, node-steps, place-within}
 use Rattle.ps_validate.proofs.Typed.{passed-on}
 use Rattle.ps_validate.proofs.validate.node_schemas.Goals as goal
 use Rattle.ps_validate.specs.Valid.{IsPlanError}
@@ -53,6 +53,11 @@ pub returns-clause-schemas : goal.returns-clause-schemas
 returns-clause-schemas g c =
     let ended : c.loop-node.node-index ≡ length c.args.order.now = omega arith in
     checked-schemas (record { count = g.F.Functions.counted c.args.functions.now; streams = g.F.Functions.streams; answer = g.F.Functions.answer; declared = g.F.Functions.declared }) (plan_of c.args.root c.args.ir.now c.args.exprs.now) c.args.order.now c.requires.survey c.requires.flaws c.requires.caches c.loop-node.schemas c.args.steps.now c.loop-node.steps (subst (λ i. Checking (record { count = g.F.Functions.counted c.args.functions.now; streams = g.F.Functions.streams; answer = g.F.Functions.answer; declared = g.F.Functions.declared }) (plan_of c.args.root c.args.ir.now c.args.exprs.now) c.args.order.now i c.loop-node.schemas c.args.steps.now c.loop-node.steps) ended c.loop-node.invariant)
+
+pub returns-clause-typed : goal.returns-clause-typed
+returns-clause-typed g c =
+    let ended : c.loop-node.node-index ≡ length c.args.order.now = omega arith in
+    checked-typed (record { count = g.F.Functions.counted c.args.functions.now; streams = g.F.Functions.streams; answer = g.F.Functions.answer; declared = g.F.Functions.declared }) (plan_of c.args.root c.args.ir.now c.args.exprs.now) c.args.order.now c.requires.survey c.requires.flaws c.requires.caches c.loop-node.schemas c.args.steps.now c.loop-node.steps (subst (λ i. Checking (record { count = g.F.Functions.counted c.args.functions.now; streams = g.F.Functions.streams; answer = g.F.Functions.answer; declared = g.F.Functions.declared }) (plan_of c.args.root c.args.ir.now c.args.exprs.now) c.args.order.now i c.loop-node.schemas c.args.steps.now c.loop-node.steps) ended c.loop-node.invariant)
 
 pub returns-clause-steps : goal.returns-clause-steps
 returns-clause-steps g c =
