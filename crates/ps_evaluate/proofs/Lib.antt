@@ -1,0 +1,2 @@
+pub mod OverInputs
+pub mod TableSteps

@@ -1,0 +1,5 @@
+// The computation of a node of a plan, whatever it is.
+#![tactic(auto)]
+
+mod inputs;
+mod tables;
