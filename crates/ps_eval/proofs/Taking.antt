@@ -82,11 +82,11 @@ takes-kinds s f (entry.BinaryExpr l o r) h = binary-takes o (kind_over s (f l)) 
 takes-kinds s f (entry.Cast e k strict) h = cast-takes k (kind_over s (f e)) h
 takes-kinds s f (entry.Sort e d n) h = h
 takes-kinds s f (entry.SortBy e by d n) h =
-    let n_keys = tree_count (trees_of f by.items) in
-    let parts = if-takes (have_kinds s (trees_of f by.items) && not (n_keys == 0) && fits_keys d.items n_keys && fits_keys n.items n_keys) (kind_over s (f e)) h in
-    let two = both (have_kinds s (trees_of f by.items) && not (n_keys == 0) && fits_keys d.items n_keys) (fits_keys n.items n_keys) parts.0 in
-    let three = both (have_kinds s (trees_of f by.items) && not (n_keys == 0)) (fits_keys d.items n_keys) two.0 in
-    let four = both (have_kinds s (trees_of f by.items)) (not (n_keys == 0)) three.0 in
+    let n_keys = tree_count (trees_of f by) in
+    let parts = if-takes (have_kinds s (trees_of f by) && not (n_keys == 0) && fits_keys d n_keys && fits_keys n n_keys) (kind_over s (f e)) h in
+    let two = both (have_kinds s (trees_of f by) && not (n_keys == 0) && fits_keys d n_keys) (fits_keys n n_keys) parts.0 in
+    let three = both (have_kinds s (trees_of f by) && not (n_keys == 0)) (fits_keys d n_keys) two.0 in
+    let four = both (have_kinds s (trees_of f by)) (not (n_keys == 0)) three.0 in
     (parts.1, four.0)
 takes-kinds s f (entry.Gather e i scalar) h =
     let k = kind_over s (f i) in

@@ -34,7 +34,7 @@ module _ (f g : Node → Tree) (same : (n : Node) → IsComplete (g n) → f n �
   entry-same (Some (entry.Cast e k s)) h = let p = same e h in cc
   entry-same (Some (entry.Sort e d n)) h = let p = same e h in cc
   entry-same (Some (entry.SortBy e by d n)) h =
-      let p = same e h.0 in let q = trees-same by.items h.1 in cc
+      let p = same e h.0 in let q = trees-same by h.1 in cc
   entry-same (Some (entry.Gather e i s)) h =
       let p = same e h.0 in let q = same i h.1 in cc
   entry-same (Some (entry.Filter e by)) h =

@@ -1,4 +1,5 @@
 // Expressions as entries of an arena.
+use crate::items::Items;
 use crate::value::DataType;
 use pu_index::Node;
 use pu_order::PlSmallStr;
@@ -149,9 +150,9 @@ pub enum AExpr {
     },
     SortBy {
         expr: Node,
-        by: Vec<Node>,
-        descending: Vec<bool>,
-        nulls_last: Vec<bool>,
+        by: Items<Node>,
+        descending: Items<bool>,
+        nulls_last: Items<bool>,
     },
     Gather {
         expr: Node,

@@ -71,6 +71,13 @@ impl Fields {
         self.list.as_slice()
     }
 
+    // A law: no name stands twice.
+    pub(crate) fn names_differ(&self)
+        ensures { IsTrue (has_distinct_names self.now) }
+    {
+        let _list = self.list.as_slice();
+    }
+
     // Where a name stands.
     pub(crate) fn place(&self, name: &str) -> Option<usize>
         ensures { result ≡ field_index name.now self.now }

@@ -8,6 +8,7 @@ pub mod expr;
 mod fields;
 pub mod frame;
 pub mod functions;
+pub mod items;
 pub mod laws;
 pub mod refusal;
 pub mod schema;

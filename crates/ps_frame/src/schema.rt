@@ -1,6 +1,6 @@
 // The names and kinds of a table's columns.
 ghost use Rattle.std.specs.Prelude.{◌≡◌, ◌<◌, ◌↔◌, ◌++◌, ◌∷◌, [], length, slice_get, take, IsTrue, IsFalse, IfOk, OnOk, OnErr, IsErrAnd, IfErr, Err, None, option_map, IfNone, IfSome, IsNone, IsSome, IsSomeAnd, ◌⊎◌};
-ghost use Rattle.ps_frame.specs.Frames.{has_name, shared_name};
+ghost use Rattle.ps_frame.specs.Frames.{has_distinct_names, has_name, shared_name};
 ghost use Rattle.ps_frame.specs.Tables.{field_index};
 
 use crate::error::FrameError;
@@ -73,6 +73,13 @@ impl Schema {
                 held: Held::Shared(shared),
             },
         }
+    }
+
+    /// A law: no name stands twice.
+    pub fn names_differ(&self)
+        ensures { IsTrue (has_distinct_names self.now) }
+    {
+        self.fields().names_differ();
     }
 
     /// How many fields there are.

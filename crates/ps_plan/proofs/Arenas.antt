@@ -1,6 +1,5 @@
 -- Plans as arenas, which unfold by computing to the plans of the other files.
 use Rattle.std.proofs.Common.{◌≡◌, ◌++◌, ◌∙◌, ap, length, ℕ, ℤ, false, List, [], ◌∷◌, None, pos, refl}
-use Rattle.std.specs.Global.{Vec}
 use Rattle.std.specs.Prelude.{codes}
 use Rattle.pu_index.specs.declared.arena.Node.{Node}
 use Rattle.ps_frame.specs.Trees.{tree_within}
@@ -10,7 +9,6 @@ use Rattle.ps_frame.specs.declared.expr.LiteralValue.TheVariants as lit
 use Rattle.ps_frame.specs.declared.expr.Operator.TheVariants as op
 use Rattle.ps_frame.specs.declared.expr.What.{What}
 use Rattle.ps_plan.specs.Plans.{IsPlan, Plan, plan_within, tree_of}
-use Rattle.ps_plan.specs.declared.ir.ExprIR.{ExprIR}
 use Rattle.ps_plan.specs.declared.ir.IR.{IR}
 use Rattle.ps_plan.specs.declared.ir.IR.TheVariants as entry
 use Rattle.ps_plan.specs.declared.ir.SinkType.TheVariants as sink_type
@@ -33,26 +31,23 @@ filter_is_plan : IsPlan filter_arenas.nodes filter_arenas.exprs (node_of 2)
 unfolding plan_within tree_within
 filter_is_plan = (tt, ((((tt, tt), tt), ((tt, tt), tt)), tt))
 
--- The lists of an entry are vectors, of which only the items are known.
-module _ (keys none k1 k2 : Vec ExprIR) (both : Vec Node) (is_keys : keys.items ≡ named (codes "k") 0 ∷ []) (is_none : none.items ≡ []) (is_k1 : k1.items ≡ named (codes "k1") 0 ∷ [])
-    (is_k2 : k2.items ≡ named (codes "k2") 0 ∷ []) (is_both : both.items ≡ node_of 3 ∷ node_of 4 ∷ []) where
-  abbrev twice_arenas : Plan
-  twice_arenas =
-      record {
-        nodes = entry.DataFrameScan given None
-            ∷ entry.GroupBy (node_of 0) keys none false (record { slice = None })
-            ∷ entry.Cache (node_of 1) 0 0
-            ∷ entry.Select (node_of 2) k1
-            ∷ entry.Select (node_of 2) k2
-            ∷ entry.HConcat both
-            ∷ entry.Sink (node_of 5) sink_type.Memory ∷ [];
-        exprs = expr.Column (codes "k") ∷ [];
-        root = node_of 6;
-      }
+abbrev twice_arenas : Plan
+twice_arenas =
+    record {
+      nodes = entry.DataFrameScan given None
+          ∷ entry.GroupBy (node_of 0) (named (codes "k") 0 ∷ []) [] false (record { slice = None })
+          ∷ entry.Cache (node_of 1) 0 0
+          ∷ entry.Select (node_of 2) (named (codes "k1") 0 ∷ [])
+          ∷ entry.Select (node_of 2) (named (codes "k2") 0 ∷ [])
+          ∷ entry.HConcat (node_of 3 ∷ node_of 4 ∷ [])
+          ∷ entry.Sink (node_of 5) sink_type.Memory ∷ [];
+      exprs = expr.Column (codes "k") ∷ [];
+      root = node_of 6;
+    }
 
-  twice_unfolds : tree_of twice_arenas 6 ≡ twice_plan
-  unfolding plan_within tree_within
-  twice_unfolds = rw (is_both, is_k1, is_k2, is_keys, is_none) refl
+twice_unfolds : tree_of twice_arenas 6 ≡ twice_plan
+unfolding plan_within tree_within
+twice_unfolds = refl
 
 -- a node over another one
 pub two-nodes : (nodes : List IR) (exprs : List AExpr) (below top : Node) (w : What) (offset : ℤ) (len : ℕ) → nodes ≡ entry.LeftOut w ∷ entry.Slice below offset len ∷ [] → below.0 ≡ 0 → top.0 ≡ 1 → IsPlan nodes exprs top

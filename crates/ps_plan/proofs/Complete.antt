@@ -60,7 +60,7 @@ module _ (f : Node → Tree) where
   entry-complete (expr.BinaryExpr l o r) all = (all l (0, omega arith, refl), all r (1, omega arith, refl))
   entry-complete (expr.Cast e k s) all = all e (0, omega arith, refl)
   entry-complete (expr.Sort e d n) all = all e (0, omega arith, refl)
-  entry-complete (expr.SortBy e by d n) all = (all e (contains-first e.0 _), list-complete by.items (λ m c. all m (contains-later e.0 m.0 _ c)))
+  entry-complete (expr.SortBy e by d n) all = (all e (contains-first e.0 _), list-complete by (λ m c. all m (contains-later e.0 m.0 _ c)))
   entry-complete (expr.Gather e i s) all = (all e (0, omega arith, refl), all i (1, omega arith, refl))
   entry-complete (expr.Filter e by) all = (all e (0, omega arith, refl), all by (1, omega arith, refl))
   entry-complete (expr.Agg a) all = aggregate-complete a (all (aggregate_operand a) (0, omega arith, refl))
@@ -90,22 +90,22 @@ module _ (f : Node → Tree) where
   pub exprs-each : (Q : Tree → Type 0) (x : IR) → ((m : Node) → Contains (numbers (entry_exprs x)) m.0 → Q (f m)) → AllByRecursion Q (step_exprs (entry_step f x))
   exprs-each Q (entry.DataFrameScan df columns) all = tt
   exprs-each Q (entry.SimpleProjection input columns) all = tt
-  exprs-each Q (entry.Select input es) all = named-each Q es.items all
-  exprs-each Q (entry.HStack input es) all = named-each Q es.items all
+  exprs-each Q (entry.Select input es) all = named-each Q es all
+  exprs-each Q (entry.HStack input es) all = named-each Q es all
   exprs-each Q (entry.Filter input predicate) all = (all predicate.node (0, omega arith, refl), tt)
   exprs-each Q (entry.Slice input offset len) all = tt
   exprs-each Q (entry.Sink input payload) all = tt
   exprs-each Q (entry.MapFunction input g) all = function-each Q g
-  exprs-each Q (entry.Sort input by cut options) all = keys-each Q by.items all
+  exprs-each Q (entry.Sort input by cut options) all = keys-each Q by all
   exprs-each Q (entry.Union inputs options) all = tt
   exprs-each Q (entry.HConcat inputs) all = tt
   exprs-each Q (entry.Cache input id hits) all = tt
   exprs-each Q (entry.GroupBy input keys aggs maintain options) all =
-      all-both Q (exprs_of (named_trees f keys.items)) (exprs_of (named_trees f aggs.items)) (named-each Q keys.items (λ m c. all m (among-left (expr_nodes keys.items) (expr_nodes aggs.items) m.0 c)))
-      (named-each Q aggs.items (λ m c. all m (among-right (expr_nodes keys.items) (expr_nodes aggs.items) m.0 c)))
+      all-both Q (exprs_of (named_trees f keys)) (exprs_of (named_trees f aggs)) (named-each Q keys (λ m c. all m (among-left (expr_nodes keys) (expr_nodes aggs) m.0 c)))
+      (named-each Q aggs (λ m c. all m (among-right (expr_nodes keys) (expr_nodes aggs) m.0 c)))
   exprs-each Q (entry.Join left right left_on right_on args) all =
-      all-both Q (key_trees f left_on.items) (key_trees f right_on.items) (keys-each Q left_on.items (λ m c. all m (among-left (expr_nodes left_on.items) (expr_nodes right_on.items) m.0 c)))
-      (keys-each Q right_on.items (λ m c. all m (among-right (expr_nodes left_on.items) (expr_nodes right_on.items) m.0 c)))
+      all-both Q (key_trees f left_on) (key_trees f right_on) (keys-each Q left_on (λ m c. all m (among-left (expr_nodes left_on) (expr_nodes right_on) m.0 c)))
+      (keys-each Q right_on (λ m c. all m (among-right (expr_nodes left_on) (expr_nodes right_on) m.0 c)))
   exprs-each Q (entry.Distinct input o) all = tt
   exprs-each Q (entry.LeftOut what) all = tt
 

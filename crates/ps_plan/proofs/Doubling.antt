@@ -1,17 +1,15 @@
 -- A scan, forty unions of the node before twice each, and a sink: refused at each union from the sixteenth on.
-use Rattle.std.proofs.Common.{◌≡◌, ℕ, zero, suc, ◌+◌, ◌-◌, ◌*◌, ◌^◌, ◌<◌, ◌≤◌, List, [], ◌∷◌, length, map, Some, None, refl, sym, ap, subst, ◌∙◌, inl, arith}
-use Rattle.std.specs.Global.{Vec}
+use Rattle.std.proofs.Common.{◌≡◌, ℕ, zero, suc, ◌+◌, ◌-◌, ◌*◌, ◌^◌, ◌<◌, ◌≤◌, List, [], ◌∷◌, length, Some, None, refl, sym, ap, subst, ◌∙◌, inl, arith}
 use Rattle.std.specs.Prelude.{slice_get, Contains}
 use Rattle.std.proofs.Math.Nat.{pow-succ'}
 use Rattle.std.proofs.Math.Numerals.{add-one}
 use Rattle.std.proofs.Math.Pow.{pow_mono}
-use Rattle.pu_index.specs.declared.arena.Node.{Node}
 use Rattle.ps_frame.specs.Functions.{Functions}
 use Rattle.ps_frame.specs.Tables.{Frame}
 use Rattle.ps_frame.specs.Trees.{tree_at}
 use Rattle.ps_frame.specs.declared.refusal.Why.TheVariants as why
 use Rattle.ps_plan.specs.Graph.{HasNoCircle, Leads, Path, Reached, exprs_at, here, inputs_at, named_by, onward}
-use Rattle.ps_plan.specs.Plans.{Plan, PlanTree, node, node_tree, occurrences, plan_trees_of, plan_within, tree}
+use Rattle.ps_plan.specs.Plans.{Plan, PlanTree, node, node_tree, occurrences, plan_within, tree}
 use Rattle.ps_plan.specs.Refusals.{IsRefused, invalid_plan, too_large}
 use Rattle.ps_plan.specs.Steps.{entry_exprs, entry_inputs, union}
 use Rattle.ps_plan.specs.declared.ir.IR.{IR}
@@ -60,15 +58,15 @@ nothing = []
 in_none : (m : ℕ) → Contains nothing m → ⊥
 in_none m (k, h, e) = absurd (omega arith)
 
-module _ (f : Frame) (twice : ℕ → Vec Node) (is_twice : (i : ℕ) → (twice i).items ≡ node_of i ∷ node_of i ∷ []) where
+module _ (f : Frame) where
   abbrev union_of : ℕ → IR
-  union_of i = entry.Union (twice i) (record { slice = None })
+  union_of i = entry.Union (node_of i ∷ node_of i ∷ []) (record { slice = None })
 
   abbrev unions : ℕ → ℕ → List IR
-  unions i n = unions_from twice i n
+  unions i n = unions_from i n
 
   abbrev doubling : Plan
-  doubling = doubling_plan f twice
+  doubling = doubling_plan f
 
   length_unions : (i n : ℕ) → length (unions i n) ≡ n + 1
   length_unions i zero = refl
@@ -87,14 +85,13 @@ module _ (f : Frame) (twice : ℕ → Vec Node) (is_twice : (i : ℕ) → (twice
   unfolds (suc d) (suc j) h le =
       let below = unfolds d j (omega arith) (omega arith) in
       ap (λ o. node_tree (tree_at []) (plan_within d doubling.nodes []) (node_of (suc j)) o) (at_union 0 40 j j (omega arith) (omega arith))
-      ∙ ap (λ ns. node (suc j) (union None) (plan_trees_of (plan_within d doubling.nodes []) ns)) (is_twice j)
       ∙ ap (λ t. node (suc j) (union None) (tree t (one_input t))) below
 
   -- the numbers that each entry names are smaller than its own
   inputs_fall : (i n j m : ℕ) → Contains (named_by entry_inputs (slice_get (unions i n) j)) m → m ≤ i + j
   inputs_fall i zero zero m h = let e = in_one i m h in omega arith
   inputs_fall i zero (suc j) m h = absurd (in_none m h)
-  inputs_fall i (suc n) zero m h = let e = in_two i m (subst (λ ns. Contains (map (λ (x : Node). x.0) ns) m) (is_twice i) h) in omega arith
+  inputs_fall i (suc n) zero m h = let e = in_two i m h in omega arith
   inputs_fall i (suc n) (suc j) m h = let e = inputs_fall (i + 1) n j m h in omega arith
 
   falls : (a b : ℕ) → Contains (inputs_at doubling a) b → b < a
@@ -117,7 +114,7 @@ module _ (f : Frame) (twice : ℕ → Vec Node) (is_twice : (i : ℕ) → (twice
   leads : (j : ℕ) → j < 40 → Contains (inputs_at doubling (suc j)) j
   leads j h =
       let at = at_union 0 40 j j h (omega arith) in
-      subst (λ ns. Contains ns j) (sym (ap (named_by entry_inputs) at ∙ ap (λ ns. map (λ (x : Node). x.0) ns) (is_twice j))) (0, omega arith, refl)
+      subst (λ ns. Contains ns j) (sym (ap (named_by entry_inputs) at)) (0, omega arith, refl)
 
   down : (d k m : ℕ) → m ≡ k + d → m ≤ 40 → Path (inputs_at doubling) m k
   down zero k m e h = let same : k ≡ m = omega arith in subst (λ x. Path (inputs_at doubling) x k) same here

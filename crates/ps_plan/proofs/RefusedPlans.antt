@@ -1,6 +1,5 @@
 -- Why small plans are refused, and at which node.
 use Rattle.std.proofs.Common.{◌≡◌, ◌≢◌, ℕ, ◌≤◌, List, [], ◌∷◌, None, refl, inl, inr, arith}
-use Rattle.std.specs.Global.{Vec}
 use Rattle.std.specs.Prelude.{Bool, true, false, codes, Contains, ◌&&◌, ◌||◌}
 use Rattle.std.specs.Str.{bytes_eq}
 use Rattle.ps_frame.specs.Functions.{Functions}
@@ -12,7 +11,7 @@ use Rattle.ps_frame.specs.declared.refusal.Why.TheVariants as why
 use Rattle.ps_plan.specs.Graph.{here, onward}
 use Rattle.ps_plan.specs.Plans.{Plan, plan_within}
 use Rattle.ps_plan.specs.Refusals.{AreClean, GraphRefused, HasUnsupported, IsLeftOut, IsMisshapen, IsPastLimits, IsRefused, Refusal, TypingRefused, column_not_found, duplicate, expr_in_circle, expr_left_out, expr_missing, function_missing, in_circle, input_missing, invalid_plan, no_input, no_key, node_left_out, root_missing, schema_mismatch, sink_below, too_deep, too_large, two_inputs, unsupported}
-use Rattle.ps_plan.specs.Steps.{Name, scan}
+use Rattle.ps_plan.specs.Steps.{scan}
 use Rattle.ps_plan.specs.declared.ir.ExprIR.{ExprIR}
 use Rattle.ps_plan.specs.declared.ir.IR.{IR}
 use Rattle.ps_plan.specs.Examples.{a_frame, one_input, scan_of}
@@ -116,23 +115,23 @@ unfolding plan_within tree_within
 predicate_refused F = record { reached = onward (0, omega arith, refl) here; because = inr (clean_scan F _ _ 2 (λ e. cc), ((tt, tt), λ h. h), inl refl) }
 
 -- Entries with lists.
-pub sort_refused : (F : Functions) (keys : Vec ExprIR) (descending nulls_last : Vec Bool) → keys.items ≡ [] → IsRefused F (sort_by_keys keys descending nulls_last) 1 (invalid_plan why.Keys)
-sort_refused F keys descending nulls_last none = reached F _ _ (invalid_plan why.Keys) (inl (rw none refl))
+pub sort_refused : (F : Functions) (descending nulls_last : List Bool) → IsRefused F (sort_by_keys [] descending nulls_last) 1 (invalid_plan why.Keys)
+sort_refused F descending nulls_last = reached F _ _ (invalid_plan why.Keys) (inl refl)
 
-pub keyless_refused : (F : Functions) (keys aggs : Vec ExprIR) (exprs : List AExpr) → keys.items ≡ [] → IsRefused F (group_by_keys keys aggs exprs) 1 no_key
-keyless_refused F keys aggs exprs none = reached F _ _ no_key (rw none refl)
+pub keyless_refused : (F : Functions) (aggs : List ExprIR) (exprs : List AExpr) → IsRefused F (group_by_keys [] aggs exprs) 1 no_key
+keyless_refused F aggs exprs = reached F _ _ no_key refl
 
-pub empty_group_refused : (F : Functions) (keys aggs : Vec ExprIR) → keys.items ≡ [] → aggs.items ≡ [] → IsRefused F (group_by_keys keys aggs []) 1 (unsupported what.NoColumns)
+pub empty_group_refused : (F : Functions) → IsRefused F (group_by_keys [] [] []) 1 (unsupported what.NoColumns)
 unfolding plan_within tree_within
-empty_group_refused F keys aggs no_keys no_aggs =
-    record { reached = onward (0, omega arith, refl) here; because = inr (clean_scan F _ _ 2 (λ e. cc), (rw (no_keys, no_aggs) (tt, λ h. h)), rw (no_keys, no_aggs) refl) }
+empty_group_refused F =
+    record { reached = onward (0, omega arith, refl) here; because = inr (clean_scan F _ _ 2 (λ e. cc), (tt, λ h. h), refl) }
 
-pub select_refused : (F : Functions) (es : Vec ExprIR) → es.items ≡ named (codes "x") 0 ∷ named (codes "x") 0 ∷ [] → IsRefused F (select_all es (above_one (codes "a"))) 1 (duplicate (codes "x"))
+pub select_refused : (F : Functions) → IsRefused F (select_all (named (codes "x") 0 ∷ named (codes "x") 0 ∷ []) (above_one (codes "a"))) 1 (duplicate (codes "x"))
 unfolding plan_within tree_within
-select_refused F es two =
-    record { reached = onward (0, omega arith, refl) here; because = inr (clean_scan F _ _ 2 (λ e. cc), (rw two ((tt, (tt, tt)), λ h. h)), inr (rw two refl)) }
+select_refused F =
+    record { reached = onward (0, omega arith, refl) here; because = inr (clean_scan F _ _ 2 (λ e. cc), ((tt, (tt, tt)), λ h. h), inr refl) }
 
-pub projection_refused : (F : Functions) (names : Vec Name) → names.items ≡ [] → IsRefused F (project_all names) 1 (unsupported what.NoColumns)
+pub projection_refused : (F : Functions) → IsRefused F (project_all []) 1 (unsupported what.NoColumns)
 unfolding plan_within tree_within
-projection_refused F names none =
-    record { reached = onward (0, omega arith, refl) here; because = inr (clean_scan F _ _ 2 (λ e. cc), (tt, λ h. h), rw none refl) }
+projection_refused F =
+    record { reached = onward (0, omega arith, refl) here; because = inr (clean_scan F _ _ 2 (λ e. cc), (tt, λ h. h), refl) }

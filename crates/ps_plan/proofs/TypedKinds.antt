@@ -57,7 +57,7 @@ module _ (f : Node → Tree) where
   entry-built (expr.Cast e k s) never all = (refl, all e (0, omega arith, refl))
   entry-built (expr.Sort e d n) never all = (refl, all e (0, omega arith, refl))
   entry-built (expr.SortBy e by d n) never all =
-      (refl, all-both IsBuiltPart (tree_parts (f e)) (trees_parts (trees_of f by.items)) (all e (contains-first e.0 _)) (list-built by.items (λ m c. all m (contains-later e.0 m.0 _ c))))
+      (refl, all-both IsBuiltPart (tree_parts (f e)) (trees_parts (trees_of f by)) (all e (contains-first e.0 _)) (list-built by (λ m c. all m (contains-later e.0 m.0 _ c))))
   entry-built (expr.Gather e i s) never all = (refl, two-built e i (all e (0, omega arith, refl)) (all i (1, omega arith, refl)))
   entry-built (expr.Filter e by) never all = (refl, two-built e by (all e (0, omega arith, refl)) (all by (1, omega arith, refl)))
   entry-built (expr.Agg a) never all = aggregate-built a (all (aggregate_operand a) (0, omega arith, refl))

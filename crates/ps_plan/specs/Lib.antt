@@ -10,6 +10,7 @@ pub mod Groups
 pub mod Joins
 pub mod Cases
 pub mod Meaning
+pub mod Nodes
 pub mod Within
 pub mod Shape
 pub mod Sound

@@ -1,6 +1,5 @@
 -- Small plans that are refused.
 use Rattle.std.specs.Prelude.{ℕ, zero, suc, ◌+◌, Bool, true, false, negsuc, List, [], ◌∷◌, None, codes, pos}
-use Rattle.std.specs.Global.{Vec}
 use Rattle.pu_index.specs.declared.arena.Node.{Node}
 use Rattle.ps_frame.specs.Tables.{Frame}
 use Rattle.ps_frame.specs.declared.expr.AExpr.{AExpr}
@@ -61,17 +60,17 @@ negative_slice = over_a (entry.Slice (node_of 0) (negsuc 0) 2) [] 2
 abbrev pub by_function : ℕ → Plan
 by_function n = over_a (entry.MapFunction (node_of 0) (call.User n)) [] 2
 
--- The lists of an entry are vectors: a sort by these keys, a group-by, a select and a projection.
-abbrev pub sort_by_keys : Vec ExprIR → Vec Bool → Vec Bool → Plan
+-- a sort by these keys, a group-by, a select and a projection
+abbrev pub sort_by_keys : List ExprIR → List Bool → List Bool → Plan
 sort_by_keys keys descending nulls_last = over_a (entry.Sort (node_of 0) keys None (record { descending = descending; nulls_last = nulls_last })) [] 2
 
-abbrev pub group_by_keys : Vec ExprIR → Vec ExprIR → List AExpr → Plan
+abbrev pub group_by_keys : List ExprIR → List ExprIR → List AExpr → Plan
 group_by_keys keys aggs exprs = over_a (entry.GroupBy (node_of 0) keys aggs false (record { slice = None })) exprs 2
 
-abbrev pub select_all : Vec ExprIR → List AExpr → Plan
+abbrev pub select_all : List ExprIR → List AExpr → Plan
 select_all es exprs = over_a (entry.Select (node_of 0) es) exprs 2
 
-abbrev pub project_all : Vec Name → Plan
+abbrev pub project_all : List Name → Plan
 project_all names = over_a (entry.SimpleProjection (node_of 0) names) [] 2
 
 -- a filter that is its own input, under a sink
@@ -84,10 +83,10 @@ circle =
     }
 
 -- n unions from node i on, and a sink; each is of the node before it twice
-abbrev pub unions_from : (ℕ → Vec Node) → ℕ → ℕ → List IR
-unions_from twice i zero = entry.Sink (node_of i) sink_type.Memory ∷ []
-unions_from twice i (suc n) = entry.Union (twice i) (record { slice = None }) ∷ unions_from twice (i + 1) n
+abbrev pub unions_from : ℕ → ℕ → List IR
+unions_from i zero = entry.Sink (node_of i) sink_type.Memory ∷ []
+unions_from i (suc n) = entry.Union (node_of i ∷ node_of i ∷ []) (record { slice = None }) ∷ unions_from (i + 1) n
 
 -- a scan under forty unions
-abbrev pub doubling_plan : Frame → (ℕ → Vec Node) → Plan
-doubling_plan f twice = record { nodes = entry.DataFrameScan f None ∷ unions_from twice 0 40; exprs = []; root = node_of 41 }
+abbrev pub doubling_plan : Frame → Plan
+doubling_plan f = record { nodes = entry.DataFrameScan f None ∷ unions_from 0 40; exprs = []; root = node_of 41 }

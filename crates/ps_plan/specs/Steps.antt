@@ -1,5 +1,5 @@
 -- What a node of a plan does with the tables of its inputs.
-use Rattle.std.specs.Prelude.{ℕ, ℤ, Bool, List, [], ◌∷◌, ◌++◌, map, Option, None, option_map}
+use Rattle.std.specs.Prelude.{ℕ, ℤ, Bool, List, [], ◌∷◌, ◌++◌, map, Option, None}
 use Rattle.pu_index.specs.declared.arena.Node.{Node}
 use Rattle.ps_frame.specs.Tables.{Frame}
 use Rattle.ps_frame.specs.Trees.{Tree}
@@ -118,30 +118,30 @@ function_step (call.User n) = user n
 
 -- what a sort, a group-by and a distinct do
 abbrev pub sort_step : (Node → Tree) → List ExprIR → Cut → SortMultipleOptions → Step
-sort_step f by cut options = sort (record { keys = key_trees f by; descending = options.descending.items; nulls_last = options.nulls_last.items; cut = cut })
+sort_step f by cut options = sort (record { keys = key_trees f by; descending = options.descending; nulls_last = options.nulls_last; cut = cut })
 
 abbrev pub group_step : (Node → Tree) → List ExprIR → List ExprIR → Bool → Cut → Step
 group_step f keys aggs maintain cut = group_by (record { keys = named_trees f keys; aggregates = named_trees f aggs; maintain_order = maintain; cut = cut })
 
 abbrev pub distinct_step : DistinctOptions → Step
-distinct_step o = distinct (record { subset = option_map (λ names. names.items) o.subset; maintain_order = o.maintain_order; keep = o.keep_strategy; cut = o.slice })
+distinct_step o = distinct (record { subset = o.subset; maintain_order = o.maintain_order; keep = o.keep_strategy; cut = o.slice })
 
 -- what an entry does, by the trees of the expressions that it names
 abbrev pub entry_step : (Node → Tree) → IR → Step
-entry_step f (entry.DataFrameScan df columns) = scan df (option_map (λ names. names.items) columns)
-entry_step f (entry.SimpleProjection input columns) = project columns.items
-entry_step f (entry.Select input es) = select (named_trees f es.items)
-entry_step f (entry.HStack input es) = hstack (named_trees f es.items)
+entry_step f (entry.DataFrameScan df columns) = scan df columns
+entry_step f (entry.SimpleProjection input columns) = project columns
+entry_step f (entry.Select input es) = select (named_trees f es)
+entry_step f (entry.HStack input es) = hstack (named_trees f es)
 entry_step f (entry.Filter input predicate) = filter (f predicate.node)
 entry_step f (entry.Slice input offset len) = slice offset len
 entry_step f (entry.Sink input payload) = sink payload
 entry_step f (entry.MapFunction input g) = function_step g
-entry_step f (entry.Sort input by cut options) = sort_step f by.items cut options
+entry_step f (entry.Sort input by cut options) = sort_step f by cut options
 entry_step f (entry.Union inputs options) = union options.slice
 entry_step f (entry.HConcat inputs) = hconcat
 entry_step f (entry.Cache input id hits) = cache id
-entry_step f (entry.GroupBy input keys aggs maintain options) = group_step f keys.items aggs.items maintain options.slice
-entry_step f (entry.Join left right left_on right_on args) = join (record { left_on = key_trees f left_on.items; right_on = key_trees f right_on.items; args = args })
+entry_step f (entry.GroupBy input keys aggs maintain options) = group_step f keys aggs maintain options.slice
+entry_step f (entry.Join left right left_on right_on args) = join (record { left_on = key_trees f left_on; right_on = key_trees f right_on; args = args })
 entry_step f (entry.Distinct input o) = distinct_step o
 entry_step f (entry.LeftOut what) = left_out what
 
@@ -156,8 +156,8 @@ entry_inputs (entry.Slice input offset len) = input ∷ []
 entry_inputs (entry.Sink input payload) = input ∷ []
 entry_inputs (entry.MapFunction input g) = input ∷ []
 entry_inputs (entry.Sort input by cut options) = input ∷ []
-entry_inputs (entry.Union inputs options) = inputs.items
-entry_inputs (entry.HConcat inputs) = inputs.items
+entry_inputs (entry.Union inputs options) = inputs
+entry_inputs (entry.HConcat inputs) = inputs
 entry_inputs (entry.Cache input id hits) = input ∷ []
 entry_inputs (entry.GroupBy input keys aggs maintain options) = input ∷ []
 entry_inputs (entry.Join left right left_on right_on args) = left ∷ right ∷ []
@@ -170,10 +170,10 @@ expr_nodes es = map (λ (e : ExprIR). e.node) es
 
 -- the expressions that an entry names, in order
 abbrev pub entry_exprs : IR → List Node
-entry_exprs (entry.Select input es) = expr_nodes es.items
-entry_exprs (entry.HStack input es) = expr_nodes es.items
+entry_exprs (entry.Select input es) = expr_nodes es
+entry_exprs (entry.HStack input es) = expr_nodes es
 entry_exprs (entry.Filter input predicate) = predicate.node ∷ []
-entry_exprs (entry.Sort input by cut options) = expr_nodes by.items
-entry_exprs (entry.GroupBy input keys aggs maintain options) = expr_nodes keys.items ++ expr_nodes aggs.items
-entry_exprs (entry.Join left right left_on right_on args) = expr_nodes left_on.items ++ expr_nodes right_on.items
+entry_exprs (entry.Sort input by cut options) = expr_nodes by
+entry_exprs (entry.GroupBy input keys aggs maintain options) = expr_nodes keys ++ expr_nodes aggs
+entry_exprs (entry.Join left right left_on right_on args) = expr_nodes left_on ++ expr_nodes right_on
 entry_exprs _ = []

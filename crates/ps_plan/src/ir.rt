@@ -1,6 +1,7 @@
 // Plans as entries of an arena.
 use ps_frame::expr::What;
 use ps_frame::frame::DataFrame;
+use ps_frame::items::Items;
 use pu_index::Node;
 use pu_order::PlSmallStr;
 
@@ -34,8 +35,8 @@ pub enum FunctionIR {
 
 #[derive(Drop)]
 pub struct SortMultipleOptions {
-    pub descending: Vec<bool>,
-    pub nulls_last: Vec<bool>,
+    pub descending: Items<bool>,
+    pub nulls_last: Items<bool>,
 }
 
 #[derive(Drop)]
@@ -86,7 +87,7 @@ pub enum UniqueKeepStrategy {
 
 #[derive(Drop)]
 pub struct DistinctOptions {
-    pub subset: Option<Vec<PlSmallStr>>,
+    pub subset: Option<Items<PlSmallStr>>,
     pub maintain_order: bool,
     pub keep_strategy: UniqueKeepStrategy,
     pub slice: Option<(i64, usize)>,
@@ -97,19 +98,19 @@ pub struct DistinctOptions {
 pub enum IR {
     DataFrameScan {
         df: DataFrame,
-        projection: Option<Vec<PlSmallStr>>,
+        projection: Option<Items<PlSmallStr>>,
     },
     SimpleProjection {
         input: Node,
-        columns: Vec<PlSmallStr>,
+        columns: Items<PlSmallStr>,
     },
     Select {
         input: Node,
-        expr: Vec<ExprIR>,
+        expr: Items<ExprIR>,
     },
     HStack {
         input: Node,
-        exprs: Vec<ExprIR>,
+        exprs: Items<ExprIR>,
     },
     Filter {
         input: Node,
@@ -130,16 +131,16 @@ pub enum IR {
     },
     Sort {
         input: Node,
-        by_column: Vec<ExprIR>,
+        by_column: Items<ExprIR>,
         slice: Option<(i64, usize)>,
         sort_options: SortMultipleOptions,
     },
     Union {
-        inputs: Vec<Node>,
+        inputs: Items<Node>,
         options: UnionOptions,
     },
     HConcat {
-        inputs: Vec<Node>,
+        inputs: Items<Node>,
     },
     Cache {
         input: Node,
@@ -148,16 +149,16 @@ pub enum IR {
     },
     GroupBy {
         input: Node,
-        keys: Vec<ExprIR>,
-        aggs: Vec<ExprIR>,
+        keys: Items<ExprIR>,
+        aggs: Items<ExprIR>,
         maintain_order: bool,
         options: GroupbyOptions,
     },
     Join {
         input_left: Node,
         input_right: Node,
-        left_on: Vec<ExprIR>,
-        right_on: Vec<ExprIR>,
+        left_on: Items<ExprIR>,
+        right_on: Items<ExprIR>,
         options: JoinArgs,
     },
     Distinct {

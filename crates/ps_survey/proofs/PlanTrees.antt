@@ -103,40 +103,40 @@ module _ (f : Node → Tree) where
   exprs-depth : (x : IR) → deepest (step_exprs (entry_step f x)) ≡ largest depth_by (numbers (entry_exprs x))
   exprs-depth (entry.DataFrameScan df columns) = refl
   exprs-depth (entry.SimpleProjection input columns) = refl
-  exprs-depth (entry.Select input es) = named-depth es.items
-  exprs-depth (entry.HStack input es) = named-depth es.items
+  exprs-depth (entry.Select input es) = named-depth es
+  exprs-depth (entry.HStack input es) = named-depth es
   exprs-depth (entry.Filter input predicate) = refl
   exprs-depth (entry.Slice input offset len) = refl
   exprs-depth (entry.Sink input payload) = refl
   exprs-depth (entry.MapFunction input g) = function-depth g
-  exprs-depth (entry.Sort input by cut options) = keys-depth by.items
+  exprs-depth (entry.Sort input by cut options) = keys-depth by
   exprs-depth (entry.Union inputs options) = refl
   exprs-depth (entry.HConcat inputs) = refl
   exprs-depth (entry.Cache input id hits) = refl
   exprs-depth (entry.GroupBy input keys aggs maintain options) =
-      both-depth (exprs_of (named_trees f keys.items)) (exprs_of (named_trees f aggs.items)) (expr_nodes keys.items) (expr_nodes aggs.items) (named-depth keys.items) (named-depth aggs.items)
+      both-depth (exprs_of (named_trees f keys)) (exprs_of (named_trees f aggs)) (expr_nodes keys) (expr_nodes aggs) (named-depth keys) (named-depth aggs)
   exprs-depth (entry.Join left right left_on right_on args) =
-      both-depth (key_trees f left_on.items) (key_trees f right_on.items) (expr_nodes left_on.items) (expr_nodes right_on.items) (keys-depth left_on.items) (keys-depth right_on.items)
+      both-depth (key_trees f left_on) (key_trees f right_on) (expr_nodes left_on) (expr_nodes right_on) (keys-depth left_on) (keys-depth right_on)
   exprs-depth (entry.Distinct input o) = refl
   exprs-depth (entry.LeftOut what) = refl
 
   exprs-size : (x : IR) → all_sizes (step_exprs (entry_step f x)) ≡ sum_by size_by (numbers (entry_exprs x))
   exprs-size (entry.DataFrameScan df columns) = refl
   exprs-size (entry.SimpleProjection input columns) = refl
-  exprs-size (entry.Select input es) = named-size es.items
-  exprs-size (entry.HStack input es) = named-size es.items
+  exprs-size (entry.Select input es) = named-size es
+  exprs-size (entry.HStack input es) = named-size es
   exprs-size (entry.Filter input predicate) = one-sum (tree_size (f predicate.node))
   exprs-size (entry.Slice input offset len) = refl
   exprs-size (entry.Sink input payload) = refl
   exprs-size (entry.MapFunction input g) = function-size g
-  exprs-size (entry.Sort input by cut options) = keys-size by.items
+  exprs-size (entry.Sort input by cut options) = keys-size by
   exprs-size (entry.Union inputs options) = refl
   exprs-size (entry.HConcat inputs) = refl
   exprs-size (entry.Cache input id hits) = refl
   exprs-size (entry.GroupBy input keys aggs maintain options) =
-      both-size (exprs_of (named_trees f keys.items)) (exprs_of (named_trees f aggs.items)) (expr_nodes keys.items) (expr_nodes aggs.items) (named-size keys.items) (named-size aggs.items)
+      both-size (exprs_of (named_trees f keys)) (exprs_of (named_trees f aggs)) (expr_nodes keys) (expr_nodes aggs) (named-size keys) (named-size aggs)
   exprs-size (entry.Join left right left_on right_on args) =
-      both-size (key_trees f left_on.items) (key_trees f right_on.items) (expr_nodes left_on.items) (expr_nodes right_on.items) (keys-size left_on.items) (keys-size right_on.items)
+      both-size (key_trees f left_on) (key_trees f right_on) (expr_nodes left_on) (expr_nodes right_on) (keys-size left_on) (keys-size right_on)
   exprs-size (entry.Distinct input o) = refl
   exprs-size (entry.LeftOut what) = refl
 

@@ -148,7 +148,7 @@ fn operand(entry: &AExpr, place: usize) -> Option<usize>
         AExpr::Column(_) | AExpr::Literal(_) | AExpr::Len | AExpr::LeftOut(_) => None,
         AExpr::BinaryExpr { left, op: _, right } => among(&[*left, *right], place),
         AExpr::Cast { expr, .. } | AExpr::Sort { expr, .. } => among(&[*expr], place),
-        AExpr::SortBy { expr, by, .. } => one_and(*expr, by, place),
+        AExpr::SortBy { expr, by, .. } => one_and(*expr, by.as_slice(), place),
         AExpr::Gather { expr, idx, .. } => among(&[*expr, *idx], place),
         AExpr::Filter { input, by } => among(&[*input, *by], place),
         AExpr::Agg(aggregate) => among(&[aggregated(aggregate)], place),
@@ -184,7 +184,7 @@ fn input(entry: &IR, place: usize) -> Option<usize>
         | IR::Cache { input, .. }
         | IR::GroupBy { input, .. }
         | IR::Distinct { input, .. } => among(&[*input], place),
-        IR::Union { inputs, .. } | IR::HConcat { inputs } => among(inputs, place),
+        IR::Union { inputs, .. } | IR::HConcat { inputs } => among(inputs.as_slice(), place),
         IR::Join {
             input_left,
             input_right,
@@ -199,16 +199,16 @@ fn expr(entry: &IR, place: usize) -> Option<usize>
     ensures bounded { IfSome result (λ _. place + 1 < 2 ^ 64) }
 {
     match entry {
-        IR::Select { expr, .. } => among_exprs(expr, place),
-        IR::HStack { exprs, .. } => among_exprs(exprs, place),
+        IR::Select { expr, .. } => among_exprs(expr.as_slice(), place),
+        IR::HStack { exprs, .. } => among_exprs(exprs.as_slice(), place),
         IR::Filter { predicate, .. } => among(&[predicate.node], place),
-        IR::Sort { by_column, .. } => among_exprs(by_column, place),
-        IR::GroupBy { keys, aggs, .. } => among_both(keys, aggs, place),
+        IR::Sort { by_column, .. } => among_exprs(by_column.as_slice(), place),
+        IR::GroupBy { keys, aggs, .. } => among_both(keys.as_slice(), aggs.as_slice(), place),
         IR::Join {
             left_on,
             right_on,
             ..
-        } => among_both(left_on, right_on, place),
+        } => among_both(left_on.as_slice(), right_on.as_slice(), place),
         IR::DataFrameScan { .. }
         | IR::SimpleProjection { .. }
         | IR::Slice { .. }

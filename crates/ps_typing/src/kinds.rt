@@ -131,8 +131,8 @@ pub fn type_expr<L: Ledger>(
             nulls_last,
         } => {
             let sorted = type_expr(alloc, at, *expr, arena, schema, steps)?;
-            let keys = type_keys(alloc, at, by, arena, schema, steps)?;
-            if !have_keys(by, descending, nulls_last) {
+            let keys = type_keys(alloc, at, by.as_slice(), arena, schema, steps)?;
+            if !have_keys(by.as_slice(), descending.as_slice(), nulls_last.as_slice()) {
                 return Err(PolarsError::SchemaMismatch { node: at });
             }
             Ok(Typed {

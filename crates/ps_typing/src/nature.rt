@@ -24,7 +24,8 @@ pub fn is_scalar(expr: Node, arena: &Arena<AExpr>) -> bool
         AExpr::BinaryExpr { left, op: _, right } => is_scalar(*left, arena)
             && is_scalar(*right, arena),
         AExpr::Cast { expr, .. } | AExpr::Sort { expr, .. } => is_scalar(*expr, arena),
-        AExpr::SortBy { expr, by, .. } => is_scalar(*expr, arena) && are_scalar(by, arena),
+        AExpr::SortBy { expr, by, .. } => is_scalar(*expr, arena)
+            && are_scalar(by.as_slice(), arena),
         AExpr::Gather { returns_scalar, .. } => *returns_scalar,
         AExpr::Ternary {
             predicate,
@@ -63,7 +64,7 @@ pub fn is_independent(expr: Node, arena: &Arena<AExpr>) -> bool
         }
         AExpr::Cast { expr, .. } | AExpr::Sort { expr, .. } => is_independent(*expr, arena),
         AExpr::SortBy { expr, by, .. } => is_independent(*expr, arena)
-            && are_independent(by, arena),
+            && are_independent(by.as_slice(), arena),
         AExpr::Gather { expr, idx, .. } => {
             is_independent(*expr, arena) && is_independent(*idx, arena)
         }
@@ -154,7 +155,7 @@ pub fn independence_of<L: Ledger>(
         AExpr::Cast { expr, .. } | AExpr::Sort { expr, .. } => independence_of(*expr, arena, steps),
         AExpr::SortBy { expr, by, .. } => {
             let sorted = independence_of(*expr, arena, steps);
-            sorted.and(independence_of_all(by, arena, steps))
+            sorted.and(independence_of_all(by.as_slice(), arena, steps))
         }
         AExpr::Gather { expr, idx, .. } => {
             let gathered = independence_of(*expr, arena, steps);

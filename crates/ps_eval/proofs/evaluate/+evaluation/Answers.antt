@@ -37,9 +37,9 @@ part_of-returns-in_ok-keys-in-SortBy t c =
     let by_keys = c.as_slice.result.now in
     let input = tree c.in-SortBy.expr in
     let is = c.typed_entry.ensures.tree ∙ ap (λ e. entry_tree tree (Some e)) c.in-SortBy.is
-    ∙ ap (λ x. Tree.sort_by x c.in-SortBy.nulls_last.items input (trees_of tree c.in-SortBy.by.items)) (sym c.as_slice-in-SortBy.ensures.value)
-    ∙ ap (λ x. Tree.sort_by d x input (trees_of tree c.in-SortBy.by.items)) (sym c.as_slice-in-SortBy-2.ensures.value)
-    ∙ ap (λ x. Tree.sort_by d n input (trees_of tree x)) (sym c.as_slice.ensures.value) in
+    ∙ ap (λ x. Tree.sort_by x c.in-SortBy.nulls_last input (trees_of tree c.in-SortBy.by)) (sym c.as_slice-in-SortBy.ensures)
+    ∙ ap (λ x. Tree.sort_by d x input (trees_of tree c.in-SortBy.by)) (sym c.as_slice-in-SortBy-2.ensures)
+    ∙ ap (λ x. Tree.sort_by d n input (trees_of tree x)) (sym c.as_slice.ensures) in
     known c.args.df.now _ (Tree.sort_by d n input (trees_of tree by_keys)) c.sorted_by_part.result is c.requires.kind
     (sort_by-evaluates c.args.df.now d n input (trees_of tree by_keys) _ c.in_ok-keys-in-SortBy.keys.items c.sorted_by_part.result c.in_ok-input-in-SortBy.ensures c.in_ok-keys-in-SortBy.ensures c.sorted_by_part.ensures.kind c.sorted_by_part.ensures.cells)
 

@@ -42,4 +42,4 @@ pub returns-clause-no_such_function : goal.returns-clause-no_such_function
 returns-clause-no_such_function c = function_refused
 
 pub returns-clause-doubled_too_often : goal.returns-clause-doubled_too_often
-returns-clause-doubled_too_often c = λ F f twice is_twice k low high. doubling_refused f twice is_twice F k low high
+returns-clause-doubled_too_often c = λ F f k low high. doubling_refused f F k low high

@@ -29,9 +29,9 @@ type_expr-returns-in_err-from-in-Cast-clause-refused g t c =
 
 pub type_expr-returns-in_err-sorted-in-SortBy-clause-refused : goal.type_expr-returns-in_err-sorted-in-SortBy-clause-refused
 type_expr-returns-in_err-sorted-in-SortBy-clause-refused g t c =
-    passed-on c.args.at c.args.schema.now (tree_parts (tree_at c.args.arena.now c.in-SortBy.expr)) (Tree.sort_by c.in-SortBy.descending.items c.in-SortBy.nulls_last.items (tree_at c.args.arena.now c.in-SortBy.expr) (trees_of (tree_at c.args.arena.now) c.in-SortBy.by.items)) (tree_at c.args.arena.now c.args.expr) c.in_err-sorted-in-SortBy.field-0.0 c.from_residual-in_err-sorted-in-SortBy.result c.from_residual-in_err-sorted-in-SortBy.ensures.1
+    passed-on c.args.at c.args.schema.now (tree_parts (tree_at c.args.arena.now c.in-SortBy.expr)) (Tree.sort_by c.in-SortBy.descending c.in-SortBy.nulls_last (tree_at c.args.arena.now c.in-SortBy.expr) (trees_of (tree_at c.args.arena.now) c.in-SortBy.by)) (tree_at c.args.arena.now c.args.expr) c.in_err-sorted-in-SortBy.field-0.0 c.from_residual-in_err-sorted-in-SortBy.result c.from_residual-in_err-sorted-in-SortBy.ensures.1
     (tree-is (tree_at c.args.arena.now) (tree_at c.args.arena.now c.args.expr) c.entry.result.now _ c.entry.ensures.tree c.in-SortBy.is)
-    (of-sorted c.in-SortBy.descending.items c.in-SortBy.nulls_last.items (tree_at c.args.arena.now c.in-SortBy.expr) (trees_of (tree_at c.args.arena.now) c.in-SortBy.by.items)) c.in_err-sorted-in-SortBy.ensures.refused
+    (of-sorted c.in-SortBy.descending c.in-SortBy.nulls_last (tree_at c.args.arena.now c.in-SortBy.expr) (trees_of (tree_at c.args.arena.now) c.in-SortBy.by)) c.in_err-sorted-in-SortBy.ensures.refused
 
 pub type_expr-returns-in_err-gathered-in-Gather-clause-refused : goal.type_expr-returns-in_err-gathered-in-Gather-clause-refused
 type_expr-returns-in_err-gathered-in-Gather-clause-refused g t c =
@@ -114,22 +114,22 @@ type_expr-returns-in_err-input-in-Agg-clause-refused g t c =
 
 pub type_expr-returns-in_err-keys-in-SortBy-clause-refused : goal.type_expr-returns-in_err-keys-in-SortBy-clause-refused
 type_expr-returns-in_err-keys-in-SortBy-clause-refused g t c =
-    let whole : Tree = Tree.sort_by c.in-SortBy.descending.items c.in-SortBy.nulls_last.items (tree_at c.args.arena.now c.in-SortBy.expr) (trees_of (tree_at c.args.arena.now) c.in-SortBy.by.items) in
-    passed-on c.args.at c.args.schema.now (trees_parts (trees_of (tree_at c.args.arena.now) c.deref.result.now)) whole (tree_at c.args.arena.now c.args.expr) c.in_err-keys-in-SortBy.field-0.0 c.from_residual-in_err-keys-in-SortBy.result c.from_residual-in_err-keys-in-SortBy.ensures.1
+    let whole : Tree = Tree.sort_by c.in-SortBy.descending c.in-SortBy.nulls_last (tree_at c.args.arena.now c.in-SortBy.expr) (trees_of (tree_at c.args.arena.now) c.in-SortBy.by) in
+    passed-on c.args.at c.args.schema.now (trees_parts (trees_of (tree_at c.args.arena.now) c.as_slice.result.now)) whole (tree_at c.args.arena.now c.args.expr) c.in_err-keys-in-SortBy.field-0.0 c.from_residual-in_err-keys-in-SortBy.result c.from_residual-in_err-keys-in-SortBy.ensures.1
     (tree-is (tree_at c.args.arena.now) (tree_at c.args.arena.now c.args.expr) c.entry.result.now _ c.entry.ensures.tree c.in-SortBy.is)
-    (subst (λ (ns : List Node). AreAmong (trees_parts (trees_of (tree_at c.args.arena.now) ns)) (tree_parts whole)) (sym c.deref.ensures.value) (of-keys c.in-SortBy.descending.items c.in-SortBy.nulls_last.items (tree_at c.args.arena.now c.in-SortBy.expr) (trees_of (tree_at c.args.arena.now) c.in-SortBy.by.items))) c.in_err-keys-in-SortBy.ensures.refused
+    (subst (λ (ns : List Node). AreAmong (trees_parts (trees_of (tree_at c.args.arena.now) ns)) (tree_parts whole)) (sym c.as_slice.ensures) (of-keys c.in-SortBy.descending c.in-SortBy.nulls_last (tree_at c.args.arena.now c.in-SortBy.expr) (trees_of (tree_at c.args.arena.now) c.in-SortBy.by))) c.in_err-keys-in-SortBy.ensures.refused
 
 pub type_expr-returns-then-not-have_keys-clause-refused : goal.type_expr-returns-then-not-have_keys-clause-refused
 type_expr-returns-then-not-have_keys-clause-refused g t c =
-    sort_by-refused c.args.at c.args.schema.now (tree_at c.args.arena.now) (tree_at c.args.arena.now c.args.expr) (tree_at c.args.arena.now c.in-SortBy.expr) c.in-SortBy.by.items c.deref-in-SortBy.result.now c.in-SortBy.descending.items c.in-SortBy.nulls_last.items c.deref-in-SortBy-2.result.now c.deref-in-SortBy-3.result.now c.have_keys.result
+    sort_by-refused c.args.at c.args.schema.now (tree_at c.args.arena.now) (tree_at c.args.arena.now c.args.expr) (tree_at c.args.arena.now c.in-SortBy.expr) c.in-SortBy.by c.as_slice-in-SortBy.result.now c.in-SortBy.descending c.in-SortBy.nulls_last c.as_slice-in-SortBy-2.result.now c.as_slice-in-SortBy-3.result.now c.have_keys.result
     (tree-is (tree_at c.args.arena.now) (tree_at c.args.arena.now c.args.expr) c.entry.result.now _ c.entry.ensures.tree c.in-SortBy.is)
-    c.deref-in-SortBy.ensures.value c.deref-in-SortBy-2.ensures.value c.deref-in-SortBy-3.ensures.value c.have_keys.ensures c.if-not-have_keys.true
+    c.as_slice-in-SortBy.ensures c.as_slice-in-SortBy-2.ensures c.as_slice-in-SortBy-3.ensures c.have_keys.ensures c.if-not-have_keys.true
 
 pub type_expr-returns-after-sorted-clause-kind : goal.type_expr-returns-after-sorted-clause-kind
 type_expr-returns-after-sorted-clause-kind g t c =
-    sort_by-typed c.args.schema.now (tree_at c.args.arena.now) (tree_at c.args.arena.now c.args.expr) (tree_at c.args.arena.now c.in-SortBy.expr) c.in-SortBy.by.items c.deref-in-SortBy.result.now c.deref.result.now c.in-SortBy.descending.items c.in-SortBy.nulls_last.items c.deref-in-SortBy-2.result.now c.deref-in-SortBy-3.result.now c.have_keys.result c.in_ok-sorted-in-SortBy.sorted.dtype
+    sort_by-typed c.args.schema.now (tree_at c.args.arena.now) (tree_at c.args.arena.now c.args.expr) (tree_at c.args.arena.now c.in-SortBy.expr) c.in-SortBy.by c.as_slice-in-SortBy.result.now c.as_slice.result.now c.in-SortBy.descending c.in-SortBy.nulls_last c.as_slice-in-SortBy-2.result.now c.as_slice-in-SortBy-3.result.now c.have_keys.result c.in_ok-sorted-in-SortBy.sorted.dtype
     (tree-is (tree_at c.args.arena.now) (tree_at c.args.arena.now c.args.expr) c.entry.result.now _ c.entry.ensures.tree c.in-SortBy.is)
-    c.deref-in-SortBy.ensures.value c.deref.ensures.value c.deref-in-SortBy-2.ensures.value c.deref-in-SortBy-3.ensures.value c.have_keys.ensures c.if-not-have_keys.false
+    c.as_slice-in-SortBy.ensures c.as_slice.ensures c.as_slice-in-SortBy-2.ensures c.as_slice-in-SortBy-3.ensures c.have_keys.ensures c.if-not-have_keys.false
     c.in_ok-keys-in-SortBy.ensures.kinds c.in_ok-sorted-in-SortBy.ensures.kind
 
 pub type_keys-loop-key-preserved : goal.type_keys-loop-key-preserved
