@@ -9,3 +9,4 @@ pub mod Masks
 pub mod Broadcasts
 pub mod SmallCases
 pub mod NamePlaces
+pub mod Gathers
