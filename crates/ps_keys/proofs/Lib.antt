@@ -1,0 +1,5 @@
+pub mod SameRows
+pub mod RowValues
+pub mod FirstRows
+pub mod Numberings
+pub mod KeyChains

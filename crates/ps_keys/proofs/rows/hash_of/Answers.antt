@@ -1,0 +1,7 @@
+use Rattle.ps_keys.proofs.RowValues.{hash-more}
+use Rattle.ps_keys.proofs.rows.hash_of.Goals as goal
+
+pub loop-column-preserved : goal.loop-column-preserved
+loop-column-preserved c =
+    hash-more c.column-item.result c.args.columns.now c.loop-column.column-index c.args.row c.value.result.now _ _
+    c.loop-column-test.true c.column-item.is c.value.ensures c.loop-column.invariant c.feed.ensures

@@ -1,0 +1,7 @@
+// Which rows have the same key.
+#![tactic(auto)]
+
+pub mod key_rows;
+pub mod numbering;
+mod rows;
+mod table;

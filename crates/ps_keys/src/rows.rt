@@ -1,0 +1,59 @@
+// Rows of columns: whether two are the same, and the hash of one.
+ghost use Rattle.std.specs.Prelude.{◌≡◌, ◌↔◌, IsTrue};
+ghost use Rattle.ps_keys.specs.Hashes.{HaveRow, row_at, row_hash, with_value};
+
+use ps_frame::column::Column;
+use ps_frame::value::Value;
+use std::hash::{FoldHasher, Hash, Hasher};
+
+// Whether two values are the same; null is the same as null.
+fn is_same(a: &Value, b: &Value) -> bool
+    ensures { IsTrue result ↔ (a.now ≡ b.now) }
+{
+    match (a, b) {
+        (Value::Null, Value::Null) => true,
+        (Value::Boolean(a), Value::Boolean(b)) => a == b,
+        (Value::Int64(a), Value::Int64(b)) => a == b,
+        (Value::IdxSize(a), Value::IdxSize(b)) => a == b,
+        (Value::String(a), Value::String(b)) => a.as_bytes() == b.as_bytes(),
+        _ => false,
+    }
+}
+
+/// Whether two rows have the same values.
+pub(crate) fn are_same(columns: &[Column], a: usize, b: usize) -> bool
+    requires first { HaveRow columns.now a }
+    requires second { HaveRow columns.now b }
+    ensures { IsTrue result ↔ (row_at columns.now a ≡ row_at columns.now b) }
+{
+    for column in columns {
+        if !is_same(column.value(a), column.value(b)) {
+            return false;
+        }
+    }
+    true
+}
+
+fn feed(value: &Value, state: &mut FoldHasher)
+    ensures { state.new ≡ with_value state.old value.now }
+{
+    match value {
+        Value::Null => state.write_u8(0),
+        Value::Boolean(b) => b.hash(state),
+        Value::Int64(z) => z.hash(state),
+        Value::IdxSize(n) => n.hash(state),
+        Value::String(s) => s.as_str().hash(state),
+    }
+}
+
+/// The hash of a row, which depends on its values alone.
+pub(crate) fn hash_of(columns: &[Column], row: usize) -> u64
+    requires { HaveRow columns.now row }
+    ensures { result ≡ row_hash (row_at columns.now row) }
+{
+    let mut state = FoldHasher::default();
+    for column in columns {
+        feed(column.value(row), &mut state);
+    }
+    state.finish()
+}
