@@ -3,3 +3,5 @@ pub mod RowValues
 pub mod FirstRows
 pub mod Numberings
 pub mod KeyChains
+pub mod Places
+pub mod Parts

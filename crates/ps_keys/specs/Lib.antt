@@ -1,3 +1,4 @@
 pub mod Numbering
 pub mod Hashes
 pub mod Chains
+pub mod KeyRows

@@ -1,0 +1,73 @@
+-- The numbers of rows, in front of the rows.
+use Rattle.std.proofs.Common.{◌≡◌, ℕ, zero, suc, ◌+◌, ◌-◌, ◌<◌, ◌≤◌, List, [], ◌∷◌, ◌++◌, length, take, refl, sym, ap, subst, ◌∙◌, inl, inr, arith}
+use Rattle.std.specs.Prelude.{Contains, IsTrue, Option, unwrap_or, map, if◌then◌else◌, nat_lt}
+use Rattle.std.proofs.lemmas.Bool.{le-ltb, lt-ltb}
+use Rattle.std.proofs.lemmas.List.{take_all}
+use Rattle.ps_frame.specs.Aggregates.{max_rows}
+use Rattle.ps_frame.specs.Causes.{Cause}
+use Rattle.ps_frame.specs.Frames.{AllOfHeight, IsFrame, column_values}
+use Rattle.ps_frame.specs.Functions.{Functions}
+use Rattle.ps_frame.specs.Tables.{Fields, Frame, beside, rows_of, whole}
+use Rattle.ps_frame.specs.Typed.{Typed, all_fit}
+use Rattle.ps_frame.specs.declared.refusal.Bound.TheVariants as bound
+use Rattle.ps_frame.specs.declared.refusal.PolarsError.TheVariants as error
+use Rattle.ps_frame.specs.declared.value.DataFault.TheVariants as fault
+use Rattle.ps_frame.specs.declared.value.DataType.TheVariants as kind
+use Rattle.ps_frame.specs.declared.value.Value.{Value}
+use Rattle.ps_frame.specs.declared.value.Value.TheVariants as val
+use Rattle.ps_plan.specs.Cases.{numbered, with_row_index}
+use Rattle.ps_plan.specs.Nodes.{GivesFrame, MayFault}
+use Rattle.ps_plan.specs.Steps.{Name, row_index}
+use Rattle.ps_plan.proofs.ReachedSteps.{contains-first}
+use Rattle.ps_tables.specs.Numbers.{numbers_from}
+use Rattle.ps_tables.proofs.Cuts.{table}
+
+pub numbers-more : (first n : ℕ) → numbers_from first (suc n) ≡ numbers_from first n ++ val.IdxSize (first + n) ∷ []
+numbers-more first zero = let e : first ≡ first + 0 = omega arith in ap (λ k. val.IdxSize k ∷ []) e
+numbers-more first (suc n) =
+    let e : first + 1 + n ≡ first + suc n = omega arith in
+    ap (λ vs. val.IdxSize first ∷ vs) (numbers-more (first + 1) n ∙ ap (λ k. numbers_from (first + 1) n ++ val.IdxSize k ∷ []) e)
+
+numbers-length : (first n : ℕ) → length (numbers_from first n) ≡ n
+numbers-length first zero = refl
+numbers-length first (suc n) = ap suc (numbers-length (first + 1) n)
+
+numbered-beside : (first : ℕ) (rows : List (List Value)) → numbered first rows ≡ beside (numbers_from first (length rows)) rows
+numbered-beside first [] = refl
+numbered-beside first (r ∷ rows) = ap (λ more. (val.IdxSize first ∷ r) ∷ more) (numbered-beside (first + 1) rows)
+
+abbrev no_number : ℕ → Cause
+no_number at = record { fault = fault.RowIndex; node = at }
+
+-- The columns of a table behind its numbers.
+module _ (t : Frame) (cs all : List Typed) (s : Fields) (name : Name) (c : Typed) (o : Option ℕ) (fields : IsFrame t.schema cs (length t.rows)) (schema : s ≡ (name, kind.IdxSize) ∷ t.schema) (kinds : c.kind ≡ kind.IdxSize) (values : c.values ≡ numbers_from (unwrap_or o 0) (length t.rows)) (all-are : all ≡ c ∷ cs) where
+  pub index-frame : IsFrame s all (length t.rows)
+  index-frame = subst (λ all. IsFrame s all (length t.rows)) (sym all-are) (record {
+    kinds = (λ i. kinds i ∷ fields.kinds i) ∙ sym (ap (map (λ field. field.1)) schema);
+    heights = (ap length values ∙ numbers-length (unwrap_or o 0) (length t.rows), fields.heights);
+    small = fields.small;
+  })
+
+  pub index-gives : (F : Functions) (at : ℕ) (f : Frame) → t.rows ≡ rows_of (length t.rows) (column_values cs) → length t.rows ≤ max_rows - unwrap_or o 0 → f.schema ≡ s → ((h : ℕ) → AllOfHeight h all → f.rows ≡ rows_of h (column_values all))
+      → GivesFrame F at (row_index name o) (t ∷ []) f
+  index-gives F at f rows few same made = (whole f, inl (λ i. table ((same ∙ schema) i) (rows-are i) (none i)), refl)
+    where
+      rows-are : f.rows ≡ numbered (unwrap_or o 0) (take (max_rows - unwrap_or o 0) t.rows)
+      rows-are =
+          made (length t.rows) index-frame.heights ∙ ap (λ all. rows_of (length t.rows) (column_values all)) all-are ∙ ap (beside c.values) (sym rows)
+          ∙ ap (λ vs. beside vs t.rows) values ∙ sym (numbered-beside (unwrap_or o 0) t.rows) ∙ ap (numbered (unwrap_or o 0)) (sym (take_all (max_rows - unwrap_or o 0) t.rows few))
+
+      none : [] ≡ (if nat_lt (max_rows - unwrap_or o 0) (length t.rows) then no_number at ∷ [] else [])
+      none = ap (λ b. if b then no_number at ∷ [] else []) (sym (le-ltb _ _ few))
+
+-- numbers are of their kind
+pub numbers-fit : (first n : ℕ) → IsTrue (all_fit kind.IdxSize (numbers_from first n))
+numbers-fit first zero = refl
+numbers-fit first (suc n) = numbers-fit (first + 1) n
+
+-- a row that has no number
+pub index-faults : (F : Functions) (at : ℕ) (name : Name) (o : Option ℕ) (t : Frame) → max_rows - unwrap_or o 0 < length t.rows → MayFault F at (row_index name o) (t ∷ []) (error.OutOfBounds (record { 0 = at }) bound.RowIndex)
+index-faults F at name o t many = inr (fault.RowIndex, refl, inl (with_row_index at ((name, kind.IdxSize) ∷ t.schema) (unwrap_or o 0) (whole t), inr (inl refl), there))
+  where
+    there : Contains (if nat_lt (max_rows - unwrap_or o 0) (length t.rows) then no_number at ∷ [] else []) (no_number at)
+    there = subst (λ b. Contains (if b then no_number at ∷ [] else []) (no_number at)) (sym (lt-ltb _ _ many)) (contains-first (no_number at) [])
