@@ -1,6 +1,6 @@
 -- What is the JSON of no node.
 use Rattle.std.proofs.Common.{◌≡◌, ◌≢◌, ◌∷◌, [], ℕ, ℤ, List, Bool, refl}
-use Rattle.std.specs.Prelude.{IsTrue, FitsSigned, Option, Some, Vec, codes, slice_get}
+use Rattle.std.specs.Prelude.{IsTrue, FitsSigned, Option, Some, codes, slice_get}
 use Rattle.std.specs.Int.{w64}
 use Rattle.std.specs.declared.alloc.Global.{Global}
 use Rattle.serde_json.specs.Data.{Data}
@@ -53,11 +53,11 @@ no_plain_node d slice sink map cache left_out tables (entry.LeftOut w) p is = le
 
 -- no node that has one input and holds a list
 pub no_listing_node : (d : Data) →
-    ((i : Node) (columns : Vec (List ℕ) Global) → d ≢ node_json 0 (entry.SimpleProjection i columns)) →
-    ((i : Node) (es : Vec ExprIR Global) → d ≢ node_json 0 (entry.Select i es)) →
-    ((i : Node) (es : Vec ExprIR Global) → d ≢ node_json 0 (entry.HStack i es)) →
-    ((i : Node) (by : Vec ExprIR Global) (cut : Cut) (options : SortMultipleOptions) → CutFits cut → d ≢ node_json 0 (entry.Sort i by cut options)) →
-    ((i : Node) (keys aggs : Vec ExprIR Global) (maintain : Bool) (options : GroupbyOptions) → CutFits options.slice → d ≢ node_json 0 (entry.GroupBy i keys aggs maintain options)) →
+    ((i : Node) (columns : List (List ℕ)) → d ≢ node_json 0 (entry.SimpleProjection i columns)) →
+    ((i : Node) (es : List ExprIR) → d ≢ node_json 0 (entry.Select i es)) →
+    ((i : Node) (es : List ExprIR) → d ≢ node_json 0 (entry.HStack i es)) →
+    ((i : Node) (by : List ExprIR) (cut : Cut) (options : SortMultipleOptions) → CutFits cut → d ≢ node_json 0 (entry.Sort i by cut options)) →
+    ((i : Node) (keys aggs : List ExprIR) (maintain : Bool) (options : GroupbyOptions) → CutFits options.slice → d ≢ node_json 0 (entry.GroupBy i keys aggs maintain options)) →
     ((i : Node) (options : DistinctOptions) → CutFits options.slice → d ≢ node_json 0 (entry.Distinct i options)) →
     (tables : List Frame) (e : IR) → IsTrue (is_listing_node e) → IsNode tables e d → ⊥
 no_listing_node d project select hstack sort group_by distinct tables (entry.DataFrameScan df columns) p is = cc
@@ -82,9 +82,9 @@ no_listing_node d project select hstack sort group_by distinct tables (entry.Lef
 pub no_other_node : (d : Data) →
     ((i : Node) (predicate : ExprIR) → d ≢ node_json 0 (entry.Filter i predicate)) →
     ((i : Node) (name : List ℕ) (offset : Option ℕ) → OffsetFits offset → d ≢ function_json (entry_number i) (call.RowIndex name offset)) →
-    ((inputs : Vec Node Global) (options : UnionOptions) → CutFits options.slice → d ≢ node_json 0 (entry.Union inputs options)) →
-    ((inputs : Vec Node Global) → d ≢ node_json 0 (entry.HConcat inputs)) →
-    ((l r : Node) (left_on right_on : Vec ExprIR Global) (args : JoinArgs) → CutFits args.slice → d ≢ node_json 0 (entry.Join l r left_on right_on args)) →
+    ((inputs : List Node) (options : UnionOptions) → CutFits options.slice → d ≢ node_json 0 (entry.Union inputs options)) →
+    ((inputs : List Node) → d ≢ node_json 0 (entry.HConcat inputs)) →
+    ((l r : Node) (left_on right_on : List ExprIR) (args : JoinArgs) → CutFits args.slice → d ≢ node_json 0 (entry.Join l r left_on right_on args)) →
     (tables : List Frame) (e : IR) → IsTrue (is_other_node e) → IsNode tables e d → ⊥
 no_other_node d filter row_index union hconcat join tables (entry.DataFrameScan df columns) p is = cc
 no_other_node d filter row_index union hconcat join tables (entry.SimpleProjection i columns) p is = cc
@@ -109,7 +109,7 @@ pub no_node : (d : Data) (tables : List Frame) →
     ((ts : List Frame) (e : IR) → IsTrue (is_plain_node e) → IsNode ts e d → ⊥) →
     ((ts : List Frame) (e : IR) → IsTrue (is_listing_node e) → IsNode ts e d → ⊥) →
     ((ts : List Frame) (e : IR) → IsTrue (is_other_node e) → IsNode ts e d → ⊥) →
-    ((table : ℕ) (df : Frame) (columns : Option (Vec (List ℕ) Global)) → slice_get tables table ≡ Some df → d ≢ node_json table (entry.DataFrameScan df columns)) →
+    ((table : ℕ) (df : Frame) (columns : Option (List (List ℕ))) → slice_get tables table ≡ Some df → d ≢ node_json table (entry.DataFrameScan df columns)) →
     (e : IR) → IsNode tables e d → ⊥
 no_node d tables plain listing other scan (entry.DataFrameScan df columns) is = scan is.table df columns is.stands is.json
 no_node d tables plain listing other scan (entry.SimpleProjection i columns) is = listing tables (entry.SimpleProjection i columns) refl is

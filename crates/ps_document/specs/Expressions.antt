@@ -40,7 +40,7 @@ expr_json (expr.BinaryExpr l o r) = list (text (operator_word o) ∷ entry_numbe
 expr_json (expr.Cast e k strict) = list (text (codes "cast") ∷ entry_number e ∷ text (kind_word k) ∷ truth strict ∷ [])
 expr_json (expr.Sort e descending nulls_last) = list (text (codes "sort") ∷ entry_number e ∷ truth descending ∷ truth nulls_last ∷ [])
 expr_json (expr.SortBy e by descending nulls_last) =
-    list (text (codes "sort_by") ∷ entry_number e ∷ list_of entry_number by.items ∷ list_of truth descending.items ∷ list_of truth nulls_last.items ∷ [])
+    list (text (codes "sort_by") ∷ entry_number e ∷ list_of entry_number by ∷ list_of truth descending ∷ list_of truth nulls_last ∷ [])
 expr_json (expr.Gather e i scalar) = list (text (codes "gather") ∷ entry_number e ∷ entry_number i ∷ truth scalar ∷ [])
 expr_json (expr.Filter e by) = list (text (codes "filter") ∷ entry_number e ∷ entry_number by ∷ [])
 expr_json (expr.Agg a) = aggregate_json a

@@ -1,11 +1,10 @@
 -- The JSON of a node.
-use Rattle.std.specs.Prelude.{ℕ, ◌≡◌, ◌<◌, ◌^◌, List, [], ◌∷◌, codes, Option, Some, None, Vec, IsTrue, FitsSigned, slice_get, ⊤}
+use Rattle.std.specs.Prelude.{ℕ, ◌≡◌, ◌<◌, ◌^◌, List, [], ◌∷◌, codes, Option, Some, None, IsTrue, FitsSigned, slice_get, ⊤}
 use Rattle.std.specs.Int.{w64}
-use Rattle.std.specs.declared.alloc.Global.{Global}
 use Rattle.serde_json.specs.Data.{Data}
 use Rattle.ps_frame.specs.Lines.{what_name}
 use Rattle.ps_frame.specs.Tables.{Frame}
-use Rattle.ps_plan.specs.Steps.{Cut, name_in}
+use Rattle.ps_plan.specs.Steps.{Cut, Name, name_in}
 use Rattle.ps_plan.specs.declared.ir.ExprIR.{ExprIR}
 use Rattle.ps_plan.specs.declared.ir.IR.{IR}
 use Rattle.ps_plan.specs.declared.ir.IR.TheVariants as entry
@@ -26,8 +25,8 @@ abbrev pub cut_json : Cut → Data
 cut_json cut = or_null (λ s. list (whole_number s.0 ∷ count s.1 ∷ [])) cut
 
 -- names, where there are any
-abbrev pub names_json : Option (Vec (List ℕ) Global) → Data
-names_json names = or_null (λ ns. list_of text ns.items) names
+abbrev pub names_json : Option (List Name) → Data
+names_json names = or_null (list_of text) names
 
 abbrev pub function_json : Data → FunctionIR → Data
 function_json input (call.RowIndex name offset) = list (text (codes "row_index") ∷ input ∷ text name ∷ or_null count offset ∷ [])
@@ -36,22 +35,22 @@ function_json input (call.User n) = list (text (codes "map") ∷ input ∷ count
 -- the JSON of a node, where `table` is the number of the table that a scan reads
 abbrev pub node_json : ℕ → IR → Data
 node_json table (entry.DataFrameScan df columns) = list (text (codes "scan") ∷ count table ∷ names_json columns ∷ [])
-node_json table (entry.SimpleProjection i columns) = list (text (codes "project") ∷ entry_number i ∷ list_of text columns.items ∷ [])
-node_json table (entry.Select i es) = list (text (codes "select") ∷ entry_number i ∷ list_of named_json es.items ∷ [])
-node_json table (entry.HStack i es) = list (text (codes "hstack") ∷ entry_number i ∷ list_of named_json es.items ∷ [])
+node_json table (entry.SimpleProjection i columns) = list (text (codes "project") ∷ entry_number i ∷ list_of text columns ∷ [])
+node_json table (entry.Select i es) = list (text (codes "select") ∷ entry_number i ∷ list_of named_json es ∷ [])
+node_json table (entry.HStack i es) = list (text (codes "hstack") ∷ entry_number i ∷ list_of named_json es ∷ [])
 node_json table (entry.Filter i predicate) = list (text (codes "filter") ∷ entry_number i ∷ key_json predicate ∷ [])
 node_json table (entry.Slice i offset len) = list (text (codes "slice") ∷ entry_number i ∷ whole_number offset ∷ count len ∷ [])
 node_json table (entry.Sink i payload) = list (text (sink_word payload) ∷ entry_number i ∷ [])
 node_json table (entry.MapFunction i function) = function_json (entry_number i) function
 node_json table (entry.Sort i by cut options) =
-    list (text (codes "sort") ∷ entry_number i ∷ list_of key_json by.items ∷ list_of truth options.descending.items ∷ list_of truth options.nulls_last.items ∷ cut_json cut ∷ [])
-node_json table (entry.Union inputs options) = list (text (codes "union") ∷ list_of entry_number inputs.items ∷ cut_json options.slice ∷ [])
-node_json table (entry.HConcat inputs) = list (text (codes "hconcat") ∷ list_of entry_number inputs.items ∷ [])
+    list (text (codes "sort") ∷ entry_number i ∷ list_of key_json by ∷ list_of truth options.descending ∷ list_of truth options.nulls_last ∷ cut_json cut ∷ [])
+node_json table (entry.Union inputs options) = list (text (codes "union") ∷ list_of entry_number inputs ∷ cut_json options.slice ∷ [])
+node_json table (entry.HConcat inputs) = list (text (codes "hconcat") ∷ list_of entry_number inputs ∷ [])
 node_json table (entry.Cache i id hits) = list (text (codes "cache") ∷ entry_number i ∷ count id ∷ [])
 node_json table (entry.GroupBy i keys aggs maintain options) =
-    list (text (codes "group_by") ∷ entry_number i ∷ list_of named_json keys.items ∷ list_of named_json aggs.items ∷ truth maintain ∷ cut_json options.slice ∷ [])
+    list (text (codes "group_by") ∷ entry_number i ∷ list_of named_json keys ∷ list_of named_json aggs ∷ truth maintain ∷ cut_json options.slice ∷ [])
 node_json table (entry.Join l r left_on right_on args) =
-    list (text (codes "join") ∷ entry_number l ∷ entry_number r ∷ text (join_word args.how) ∷ list_of key_json left_on.items ∷ list_of key_json right_on.items
+    list (text (codes "join") ∷ entry_number l ∷ entry_number r ∷ text (join_word args.how) ∷ list_of key_json left_on ∷ list_of key_json right_on
     ∷ or_null text args.suffix ∷ truth args.join_nulls ∷ text (validation_word args.validation) ∷ cut_json args.slice ∷ [])
 node_json table (entry.Distinct i o) =
     list (text (codes "distinct") ∷ entry_number i ∷ names_json o.subset ∷ truth o.maintain_order ∷ text (keep_word o.keep_strategy) ∷ cut_json o.slice ∷ [])

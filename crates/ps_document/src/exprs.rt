@@ -1,5 +1,5 @@
 // The expressions of a document.
-ghost use Rattle.std.specs.Prelude.{◌≡◌, ◌≢◌, ◌<◌, ◌^◌, ◌∷◌, [], ℕ, ℤ, Bool, List, Vec, IsTrue, IfOk, IfSome, IfNone, codes, FitsSigned};
+ghost use Rattle.std.specs.Prelude.{◌≡◌, ◌≢◌, ◌<◌, ◌^◌, ◌∷◌, [], ℕ, ℤ, Bool, List, IsTrue, IfOk, IfSome, IfNone, codes, FitsSigned};
 ghost use Rattle.std.specs.Int.{w64};
 ghost use Rattle.serde_json.specs.Data.{Data};
 ghost use Rattle.serde_json.specs.View.{view};
@@ -245,7 +245,7 @@ fn column_of(alloc: Global, value: &Value) -> Result<Option<AExpr>, AllocError>
 
 fn sort_by_of(alloc: Global, value: &Value) -> Result<Option<AExpr>, AllocError>
     ensures some { IfOk result (λ o. IfSome o (λ e. IsExpr e (view value.now))) }
-    ensures none { IfOk result (λ o. IfNone o ((e : Node) (by : Vec Node Global) (descending nulls_last : Vec Bool Global) → view value.now ≢ expr_json (expr.SortBy e by descending nulls_last))) }
+    ensures none { IfOk result (λ o. IfNone o ((e : Node) (by : List Node) (descending nulls_last : List Bool) → view value.now ≢ expr_json (expr.SortBy e by descending nulls_last))) }
 {
     let Some((expr, by, descending, nulls_last)) = four_after(value, "sort_by") else {
         return Ok(None);

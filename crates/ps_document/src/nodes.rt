@@ -1,7 +1,6 @@
 // The nodes of a document.
-ghost use Rattle.std.specs.Prelude.{◌≡◌, ◌≢◌, ◌∷◌, [], ℕ, ℤ, Bool, List, Vec, Option, Some, slice_get, IfOk, IfSome, IfNone, IsTrue, FitsSigned};
+ghost use Rattle.std.specs.Prelude.{◌≡◌, ◌≢◌, ◌∷◌, [], ℕ, ℤ, Bool, List, Option, Some, slice_get, IfOk, IfSome, IfNone, IsTrue, FitsSigned};
 ghost use Rattle.std.specs.Int.{w64};
-ghost use Rattle.std.specs.declared.alloc.Global.{Global};
 ghost use Rattle.serde_json.specs.Data.{Data};
 ghost use Rattle.serde_json.specs.View.{view};
 ghost use Rattle.ps_frame.specs.Tables.{Frame};
@@ -34,7 +33,7 @@ use std::alloc::{AllocError, Global};
 
 fn scan_of(alloc: Global, tables: &Vec<DataFrame>, value: &Value) -> Result<Option<IR>, AllocError>
     ensures some { IfOk result (λ o. IfSome o (λ e. IsNode tables.now.items e (view value.now))) }
-    ensures none { IfOk result (λ o. IfNone o ((table : ℕ) (df : Frame) (columns : Option (Vec (List ℕ) Global)) → slice_get tables.now.items table ≡ Some df → view value.now ≢ node_json table (entry.DataFrameScan df columns))) }
+    ensures none { IfOk result (λ o. IfNone o ((table : ℕ) (df : Frame) (columns : Option (List (List ℕ))) → slice_get tables.now.items table ≡ Some df → view value.now ≢ node_json table (entry.DataFrameScan df columns))) }
 {
     let Some((table, columns)) = two_after(value, "scan") else {
         return Ok(None);
@@ -56,7 +55,7 @@ fn scan_of(alloc: Global, tables: &Vec<DataFrame>, value: &Value) -> Result<Opti
 
 fn projection_of(alloc: Global, value: &Value) -> Result<Option<IR>, AllocError>
     ensures some { IfOk result (λ o. IfSome o (λ e. (tables : List Frame) → IsNode tables e (view value.now))) }
-    ensures none { IfOk result (λ o. IfNone o ((i : Node) (columns : Vec (List ℕ) Global) → view value.now ≢ node_json 0 (entry.SimpleProjection i columns))) }
+    ensures none { IfOk result (λ o. IfNone o ((i : Node) (columns : List (List ℕ)) → view value.now ≢ node_json 0 (entry.SimpleProjection i columns))) }
 {
     let Some((input, columns)) = two_after(value, "project") else {
         return Ok(None);
@@ -72,7 +71,7 @@ fn projection_of(alloc: Global, value: &Value) -> Result<Option<IR>, AllocError>
 
 fn select_of(alloc: Global, value: &Value) -> Result<Option<IR>, AllocError>
     ensures some { IfOk result (λ o. IfSome o (λ e. (tables : List Frame) → IsNode tables e (view value.now))) }
-    ensures none { IfOk result (λ o. IfNone o ((i : Node) (es : Vec ExprIR Global) → view value.now ≢ node_json 0 (entry.Select i es))) }
+    ensures none { IfOk result (λ o. IfNone o ((i : Node) (es : List ExprIR) → view value.now ≢ node_json 0 (entry.Select i es))) }
 {
     let Some((input, expr)) = two_after(value, "select") else {
         return Ok(None);
@@ -88,7 +87,7 @@ fn select_of(alloc: Global, value: &Value) -> Result<Option<IR>, AllocError>
 
 fn hstack_of(alloc: Global, value: &Value) -> Result<Option<IR>, AllocError>
     ensures some { IfOk result (λ o. IfSome o (λ e. (tables : List Frame) → IsNode tables e (view value.now))) }
-    ensures none { IfOk result (λ o. IfNone o ((i : Node) (es : Vec ExprIR Global) → view value.now ≢ node_json 0 (entry.HStack i es))) }
+    ensures none { IfOk result (λ o. IfNone o ((i : Node) (es : List ExprIR) → view value.now ≢ node_json 0 (entry.HStack i es))) }
 {
     let Some((input, exprs)) = two_after(value, "hstack") else {
         return Ok(None);
@@ -172,7 +171,7 @@ fn map_of(value: &Value) -> Option<IR>
 
 fn sort_of(alloc: Global, value: &Value) -> Result<Option<IR>, AllocError>
     ensures some { IfOk result (λ o. IfSome o (λ e. (tables : List Frame) → IsNode tables e (view value.now))) }
-    ensures none { IfOk result (λ o. IfNone o ((i : Node) (by : Vec ExprIR Global) (cut : Cut) (options : SortMultipleOptions) → CutFits cut → view value.now ≢ node_json 0 (entry.Sort i by cut options))) }
+    ensures none { IfOk result (λ o. IfNone o ((i : Node) (by : List ExprIR) (cut : Cut) (options : SortMultipleOptions) → CutFits cut → view value.now ≢ node_json 0 (entry.Sort i by cut options))) }
 {
     let Some((input, by, descending, nulls_last, slice)) = five_after(value, "sort") else {
         return Ok(None);
@@ -205,7 +204,7 @@ fn sort_of(alloc: Global, value: &Value) -> Result<Option<IR>, AllocError>
 
 fn union_of(alloc: Global, value: &Value) -> Result<Option<IR>, AllocError>
     ensures some { IfOk result (λ o. IfSome o (λ e. (tables : List Frame) → IsNode tables e (view value.now))) }
-    ensures none { IfOk result (λ o. IfNone o ((inputs : Vec Node Global) (options : UnionOptions) → CutFits options.slice → view value.now ≢ node_json 0 (entry.Union inputs options))) }
+    ensures none { IfOk result (λ o. IfNone o ((inputs : List Node) (options : UnionOptions) → CutFits options.slice → view value.now ≢ node_json 0 (entry.Union inputs options))) }
 {
     let Some((inputs, slice)) = two_after(value, "union") else {
         return Ok(None);
@@ -224,7 +223,7 @@ fn union_of(alloc: Global, value: &Value) -> Result<Option<IR>, AllocError>
 
 fn hconcat_of(alloc: Global, value: &Value) -> Result<Option<IR>, AllocError>
     ensures some { IfOk result (λ o. IfSome o (λ e. (tables : List Frame) → IsNode tables e (view value.now))) }
-    ensures none { IfOk result (λ o. IfNone o ((inputs : Vec Node Global) → view value.now ≢ node_json 0 (entry.HConcat inputs))) }
+    ensures none { IfOk result (λ o. IfNone o ((inputs : List Node) → view value.now ≢ node_json 0 (entry.HConcat inputs))) }
 {
     let Some(inputs) = one_after(value, "hconcat") else {
         return Ok(None);
@@ -249,7 +248,7 @@ fn cache_of(value: &Value) -> Option<IR>
 
 fn group_by_of(alloc: Global, value: &Value) -> Result<Option<IR>, AllocError>
     ensures some { IfOk result (λ o. IfSome o (λ e. (tables : List Frame) → IsNode tables e (view value.now))) }
-    ensures none { IfOk result (λ o. IfNone o ((i : Node) (keys aggs : Vec ExprIR Global) (maintain : Bool) (options : GroupbyOptions) → CutFits options.slice → view value.now ≢ node_json 0 (entry.GroupBy i keys aggs maintain options))) }
+    ensures none { IfOk result (λ o. IfNone o ((i : Node) (keys aggs : List ExprIR) (maintain : Bool) (options : GroupbyOptions) → CutFits options.slice → view value.now ≢ node_json 0 (entry.GroupBy i keys aggs maintain options))) }
 {
     let Some((input, keys, aggs, maintain_order, slice)) = five_after(value, "group_by") else {
         return Ok(None);
@@ -343,7 +342,7 @@ fn join_parts(
 
 fn join_node_of(alloc: Global, value: &Value) -> Result<Option<IR>, AllocError>
     ensures some { IfOk result (λ o. IfSome o (λ e. (tables : List Frame) → IsNode tables e (view value.now))) }
-    ensures none { IfOk result (λ o. IfNone o ((l r : Node) (left_on right_on : Vec ExprIR Global) (args : JoinArgs) → CutFits args.slice → view value.now ≢ node_json 0 (entry.Join l r left_on right_on args))) }
+    ensures none { IfOk result (λ o. IfNone o ((l r : Node) (left_on right_on : List ExprIR) (args : JoinArgs) → CutFits args.slice → view value.now ≢ node_json 0 (entry.Join l r left_on right_on args))) }
 {
     let Some((left, right, how, left_on, right_on, suffix, nulls, validation, slice)) = nine_after(
         value, "join",

@@ -1,6 +1,5 @@
 // Parts of nodes that may be null.
-ghost use Rattle.std.specs.Prelude.{◌≡◌, ◌≢◌, ℕ, List, Vec, Option, IfOk, IfSome, IfNone};
-ghost use Rattle.std.specs.declared.alloc.Global.{Global};
+ghost use Rattle.std.specs.Prelude.{◌≡◌, ◌≢◌, ℕ, List, Option, IfOk, IfSome, IfNone};
 ghost use Rattle.serde_json.specs.View.{view};
 ghost use Rattle.ps_plan.specs.Steps.{Cut};
 ghost use Rattle.ps_document.specs.Json.{count, or_null, text};
@@ -8,6 +7,7 @@ ghost use Rattle.ps_document.specs.Nodes.{CutFits, OffsetFits, cut_json, names_j
 
 use crate::json::{is_null, number_of, short_number_of, two, whole_number_of};
 use crate::parts::{FromJson, Plain, list_from};
+use ps_frame::items::Items;
 use pu_order::PlSmallStr;
 use serde_json::Value;
 use std::alloc::{AllocError, Global};
@@ -50,9 +50,12 @@ pub fn suffix_of(alloc: Global, value: &Value) -> Result<Option<Option<PlSmallSt
 }
 
 /// Names, or none.
-pub fn names_of(alloc: Global, value: &Value) -> Result<Option<Option<Vec<PlSmallStr>>>, AllocError>
+pub fn names_of(
+    alloc: Global,
+    value: &Value,
+) -> Result<Option<Option<Items<PlSmallStr>>>, AllocError>
     ensures some { IfOk result (λ o. IfSome o (λ names. view value.now ≡ names_json names)) }
-    ensures none { IfOk result (λ o. IfNone o ((names : Option (Vec (List ℕ) Global)) → view value.now ≢ names_json names)) }
+    ensures none { IfOk result (λ o. IfNone o ((names : Option (List (List ℕ))) → view value.now ≢ names_json names)) }
 {
     if is_null(value) {
         return Ok(Some(None));

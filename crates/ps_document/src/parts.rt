@@ -8,6 +8,7 @@ ghost use Rattle.ps_document.specs.Words.{is_left_out_kind};
 use crate::json::{elements, entry_of, one_after, text_of, truth_of, two};
 use crate::words::left_out_kind_of;
 use ps_frame::expr::What;
+use ps_frame::items::Items;
 use ps_plan::ir::{ExprIR, OutputName};
 use pu_index::Node;
 use pu_order::PlSmallStr;
@@ -45,8 +46,8 @@ pub struct Key;
 pub fn list_from<F, T: FromJson<F>>(
     alloc: Global,
     value: &Value,
-) -> Result<Option<Vec<T>>, AllocError>
-    ensures some { IfOk result (λ o. IfSome o (λ xs. view value.now ≡ list_of T.FromJson.json xs.items)) }
+) -> Result<Option<Items<T>>, AllocError>
+    ensures some { IfOk result (λ o. IfSome o (λ xs. view value.now ≡ list_of T.FromJson.json xs)) }
     ensures none { IfOk result (λ o. IfNone o ((xs : List T) → view value.now ≢ list_of T.FromJson.json xs)) }
 {
     let Some(items) = elements(value) else {
@@ -59,7 +60,7 @@ pub fn list_from<F, T: FromJson<F>>(
             None => return Ok(None),
         }
     }
-    Ok(Some(parts))
+    Ok(Some(Items::new(parts)))
 }
 
 impl FromJson<Plain> for Node {

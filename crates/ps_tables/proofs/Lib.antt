@@ -1,6 +1,9 @@
-pub mod Cuts
 pub mod Called
+pub mod Cuts
+pub mod Filled
+pub mod Fitting
+pub mod Named
 pub mod Numbered
 pub mod Projected
-pub mod Named
 pub mod Results
+pub mod Stacked

@@ -27,7 +27,7 @@ beside-picked : (k : ℕ) (ks : List ℕ) (rows : List (List Value)) → beside 
 beside-picked k ks [] = refl
 beside-picked k ks (r ∷ rows) = ap (λ more. picked (k ∷ ks) r ∷ more) (beside-picked k ks rows)
 
-rows-picked : (rows : List (List Value)) (ks : List ℕ) → rows_of (length rows) (columns_at rows ks) ≡ map (picked ks) rows
+pub rows-picked : (rows : List (List Value)) (ks : List ℕ) → rows_of (length rows) (columns_at rows ks) ≡ map (picked ks) rows
 rows-picked rows [] = no-columns rows
 rows-picked rows (k ∷ ks) = ap (beside (values_at k rows)) (rows-picked rows ks) ∙ beside-picked k ks rows
 

@@ -2,8 +2,11 @@
 #![tactic(auto)]
 
 pub mod cut;
+mod fits;
 mod framed;
+pub mod hconcat;
 pub mod pass;
 pub mod project;
 pub mod row_index;
+pub mod union;
 pub mod user;

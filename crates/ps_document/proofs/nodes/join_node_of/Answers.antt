@@ -6,4 +6,4 @@ use Rattle.ps_document.proofs.nodes.join_node_of.Goals as goal
 
 pub returns-in_default-clause-none : goal.returns-in_default-clause-none
 returns-in_default-clause-none c = λ l r left_on right_on a fits e.
-    c.in_default.ensures.none (entry_number l) (entry_number r) (text (join_word a.how)) (list_of key_json left_on.items) (list_of key_json right_on.items) (or_null text a.suffix) (truth a.join_nulls) (text (validation_word a.validation)) (cut_json a.slice) e
+    c.in_default.ensures.none (entry_number l) (entry_number r) (text (join_word a.how)) (list_of key_json left_on) (list_of key_json right_on) (or_null text a.suffix) (truth a.join_nulls) (text (validation_word a.validation)) (cut_json a.slice) e

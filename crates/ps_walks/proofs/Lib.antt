@@ -1,0 +1,4 @@
+pub mod Meanings
+pub mod Choosing
+pub mod Walks
+pub mod Clean
