@@ -1,0 +1,11 @@
+pub mod CausesAt
+pub mod Faulty
+pub mod Keyed
+pub mod LargeColumns
+pub mod Named
+pub mod Results
+pub mod Rows
+pub mod Standing
+pub mod Steps
+pub mod TableFits
+pub mod WholeZips

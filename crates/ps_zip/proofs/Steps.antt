@@ -1,0 +1,165 @@
+-- Loops over inputs, and what a table and expressions give as inputs.
+use Rattle.std.proofs.Common.{◌≡◌, ℕ, zero, suc, ◌+◌, ◌<◌, ◌≤◌, List, [], ◌∷◌, ◌++◌, length, get_or, take, Bool, true, false, cond, refl, subst, sym, ◌∙◌, ap, arith, add-one, append_assoc}
+use Rattle.std.proofs.Math.Seq.{take-length}
+use Rattle.std.specs.Prelude.{map, slice_get, IsTrue, Some, None}
+use Rattle.std.specs.List.{AllByRecursion, AllZip}
+use Rattle.std.specs.Str.{bytes_eq}
+use Rattle.std.proofs.lemmas.List.{map-append, take_more}
+use Rattle.std.proofs.lemmas.List.Quantifiers.{position-Some}
+use Rattle.ps_eval.proofs.Parts.{all_values}
+use Rattle.ps_eval.proofs.Zips.{map-map}
+use Rattle.ps_eval.specs.Evaluations.{Evaluates}
+use Rattle.ps_eval.specs.Held.{held_cell, held_values}
+use Rattle.ps_eval.specs.declared.part.Part.{Part}
+use Rattle.ps_frame.proofs.Lists.{and_both}
+use Rattle.ps_frame.proofs.Rows.{columns_of-frame, values_at-rows_of}
+use Rattle.ps_frame.specs.Causes.{Cell, faulty, value}
+use Rattle.ps_frame.specs.Eval.{eval}
+use Rattle.ps_frame.specs.Frames.{IsFrame, column_values, kinds_of}
+use Rattle.ps_frame.specs.Lawful.{FitsFrame}
+use Rattle.ps_frame.specs.Tables.{Fields, Frame, column_at, columns_of, field_index, field_kind, rows_of, values_at, values_at_some, whole}
+use Rattle.ps_frame.specs.Trees.{Tree}
+use Rattle.ps_frame.specs.Typed.{Typed, all_fit}
+use Rattle.ps_frame.specs.Values.{fits_kind}
+use Rattle.ps_frame.specs.Zip.{below}
+use Rattle.ps_frame.specs.declared.value.Cell.TheVariants as held
+use Rattle.ps_frame.specs.declared.value.DataType.{DataType}
+use Rattle.ps_frame.specs.declared.value.DataType.TheVariants as kind
+use Rattle.ps_frame.specs.declared.value.Value.{Value}
+use Rattle.ps_plan.proofs.EvalFits.{eval-fits}
+use Rattle.ps_plan.proofs.Fits.{CellFits, all-append}
+use Rattle.ps_zip.specs.Inputs.{AddsExprs, FitsItsKind, HasFaultAt, Holds, IsExprInput, SomeFaultAt, kind_in}
+use Rattle.ps_zip.specs.declared.inputs.Input.{Input}
+use Rattle.ps_zip.specs.declared.inputs.Input.TheVariants as input
+
+-- ---- lists
+
+-- one more item of which something holds
+pub all-more : {A : Type 0} (P : A → Type 0) (xs : List A) (i : ℕ) (x : A) → i < length xs → x ≡ get_or xs i x → AllByRecursion P (take i xs) → P x → AllByRecursion P (take (i + 1) xs)
+all-more P xs i x h at' a p = subst (λ ys. AllByRecursion P ys) (sym (take_more xs i x h ∙ ap (λ y. take i xs ++ y ∷ []) (sym at'))) (all-append P (take i xs) (x ∷ []) a (p, tt))
+
+pub all-taken : {A : Type 0} (P : A → Type 0) (xs : List A) (i : ℕ) → length xs ≤ i → i ≤ length xs → AllByRecursion P (take i xs) → AllByRecursion P xs
+all-taken P xs i g h a = let e : i ≡ length xs = omega arith in subst (λ ys. AllByRecursion P ys) (ap (λ n. take n xs) e ∙ take-length xs) a
+
+-- what holds of each image
+pub all-image : {A B : Type 0} (P : B → Type 0) (f : A → B) (xs : List A) (i : ℕ) (x : A) → i < length xs → x ≡ get_or xs i x → AllByRecursion P (map f xs) → P (f x)
+all-image P f [] i x h at' a = absurd (omega arith)
+all-image P f (y ∷ xs) zero x h at' a = subst (λ z. P (f z)) (sym at') a.0
+all-image P f (y ∷ xs) (suc i) x h at' a = all-image P f xs i x (omega arith) at' a.1
+
+pub zip-append : {A B : Type 0} (R : A → B → Type 0) (xs xs' : List A) (ys ys' : List B) → AllZip R xs ys → AllZip R xs' ys' → AllZip R (xs ++ xs') (ys ++ ys')
+zip-append R [] xs' [] ys' a b = b
+zip-append R [] xs' (y ∷ ys) ys' a b = absurd a
+zip-append R (x ∷ xs) xs' [] ys' a b = absurd a
+zip-append R (x ∷ xs) xs' (y ∷ ys) ys' a b = (a.0, zip-append R xs xs' ys ys' a.1 b)
+
+pub zip-map : {A B C : Type 0} (R : A → C → Type 0) (f : B → C) (xs : List A) (ys : List B) → AllZip (λ y x. R x (f y)) ys xs → AllZip R xs (map f ys)
+zip-map R f [] [] a = tt
+zip-map R f [] (y ∷ ys) a = absurd a
+zip-map R f (x ∷ xs) [] a = absurd a
+zip-map R f (x ∷ xs) (y ∷ ys) a = (a.0, zip-map R f xs ys a.1)
+
+-- ---- the columns of a table
+
+held-whole : (vs : List Value) → map held_cell (map value vs) ≡ map held.Val vs
+held-whole vs = map-map held_cell value vs
+
+pub table-fits : (c : Typed) → IsTrue (all_fit c.kind c.values) → FitsItsKind (input.Table c)
+table-fits c h = rw (all_values c.values) h
+
+module _ (f : Frame) (cs : List Typed) (is : IsFrame f.schema cs (length f.rows)) (rows : f.rows ≡ rows_of (length f.rows) (column_values cs)) where
+  column-holds : (n : ℕ) (d : Typed) → n < length cs → Holds (input.Table (get_or cs n d)) (column_at n (whole f))
+  column-holds n d h =
+      let same : (get_or cs n d).values ≡ values_at n f.rows = sym (ap (values_at n) rows ∙ values_at-rows_of (length f.rows) n cs d is.heights h) in
+      record { cells = ap (map held.Val) same ∙ sym (held-whole (values_at n f.rows)); ended = refl }
+
+  columns-hold : (d : Typed) (n : ℕ) → n ≤ length cs → AllZip Holds (map input.Table (take n cs)) (map (λ i. column_at i (whole f)) (below n))
+  columns-hold d zero h = tt
+  columns-hold d (suc n) h =
+      let front = ap (λ m. take m cs) (sym (add-one n)) ∙ take_more cs n d (omega arith) in
+      subst (λ ts. AllZip Holds (map input.Table ts) (map (λ i. column_at i (whole f)) (below n ++ n ∷ []))) (sym front)
+      (subst (λ xs. AllZip Holds xs (map (λ i. column_at i (whole f)) (below n ++ n ∷ []))) (sym (map-append input.Table (take n cs) (get_or cs n d ∷ [])))
+      (subst (λ ys. AllZip Holds (map input.Table (take n cs) ++ input.Table (get_or cs n d) ∷ []) ys) (sym (map-append (λ i. column_at i (whole f)) (below n) (n ∷ [])))
+      (zip-append Holds (map input.Table (take n cs)) (input.Table (get_or cs n d) ∷ []) (map (λ i. column_at i (whole f)) (below n)) (column_at n (whole f) ∷ [])
+      (columns-hold d n (omega arith)) (column-holds n d (omega arith), tt))))
+
+  pub table-holds : AllZip Holds (map input.Table cs) (columns_of (whole f))
+  table-holds =
+      let d : Typed = record { kind = kind.Int64; values = [] } in
+      subst (λ ts. AllZip Holds (map input.Table ts) (columns_of (whole f))) (take-length cs)
+      (subst (λ n. AllZip Holds (map input.Table (take (length cs) cs)) (map (λ i. column_at i (whole f)) (below n))) (columns_of-frame is) (columns-hold d (length cs) (omega arith)))
+
+  pub table-kinds : map kind_in (map input.Table cs) ≡ kinds_of f.schema
+  table-kinds = map-map kind_in input.Table cs ∙ is.kinds
+
+-- one more column of a table
+pub inputs-more : (cs : List Typed) (i : ℕ) (c : Typed) (old new : List Input) (x : Input) → i < length cs → c ≡ get_or cs i c → old ≡ map input.Table (take i cs) → AllByRecursion FitsItsKind old → x ≡ input.Table c → IsTrue (all_fit c.kind c.values) → new ≡ old ++ x ∷ []
+    → (new ≡ map input.Table (take (i + 1) cs)) × AllByRecursion FitsItsKind new
+inputs-more cs i c old new x h at' before fit is fits grown = (
+  grown ∙ ap (λ xs. xs ++ x ∷ []) before ∙ ap (λ y. map input.Table (take i cs) ++ y ∷ []) is
+      ∙ sym (ap (map input.Table) (take_more cs i c h ∙ ap (λ y. take i cs ++ y ∷ []) (sym at')) ∙ map-append input.Table (take i cs) (c ∷ [])),
+  subst (AllByRecursion FitsItsKind) (sym grown) (all-append FitsItsKind old (x ∷ []) fit (subst FitsItsKind (sym is) (table-fits c fits), tt)),
+)
+
+-- ---- an expression
+
+-- the kind of the field at the place of a name
+at-first : (name : List ℕ) (s : Fields) (i : ℕ) (k : DataType) (d : List ℕ × DataType) → bytes_eq name (get_or s i d).0 ≡ true → ((j : ℕ) → j < i → bytes_eq name (get_or s j d).0 ≡ false)
+    → slice_get (kinds_of s) i ≡ Some k → field_kind name s ≡ Some k
+at-first name [] i k d hit before is = absurd (let no : None ≡ Some k = is in cc)
+at-first name (f ∷ fs) zero k d hit before is = rw hit is
+at-first name (f ∷ fs) (suc i) k d hit before is =
+    let miss : bytes_eq name f.0 ≡ false = before 0 (omega arith) in
+    rw miss (at-first name fs i k d hit (λ j h. before (suc j) (omega arith)) is)
+
+kind-at : (name : List ℕ) (s : Fields) (i : ℕ) (k : DataType) → field_index name s ≡ Some i → slice_get (kinds_of s) i ≡ Some k → field_kind name s ≡ Some k
+kind-at name s i k there is =
+    let d : List ℕ × DataType = ([], kind.Int64) in
+    let first = position-Some (λ (f : List ℕ × DataType). bytes_eq name f.0) s i d there in
+    at-first name s i k d first.1 first.2 is
+
+pub named-is : (f : Frame) (name : List ℕ) (i : ℕ) (c : Typed) → field_index name f.schema ≡ Some i → slice_get (kinds_of f.schema) i ≡ Some c.kind → c.values ≡ values_at i f.rows → IsTrue (all_fit c.kind c.values)
+    → IsExprInput f (Tree.column name) (input.Table c)
+named-is f name i c there k vs fits = record {
+  holds = λ node. record {
+    cells = ap (map held.Val) vs ∙ sym (held-whole (values_at i f.rows)) ∙ sym (ap (λ o. map held_cell (map value (values_at_some o f.rows))) there);
+    ended = refl;
+  };
+  kind = kind-at name f.schema i c.kind there k;
+  fits = table-fits c fits;
+}
+
+held-fit : (k : DataType) (cells : List Cell) → AllByRecursion (CellFits k) cells → IsTrue (all_fit k (held_values (map held_cell cells)))
+held-fit k [] h = refl
+held-fit k (value v ∷ cells) h = and_both (fits_kind k v) (all_fit k (held_values (map held_cell cells))) h.0 (held-fit k cells h.1)
+held-fit k (faulty c cs ∷ cells) h = held-fit k cells h.1
+
+pub computed-is : (f : Frame) (t : Tree) (p : Part) → FitsFrame f → Evaluates f t p → IsExprInput f t (input.Computed p)
+computed-is f t p fits e = record {
+  holds = λ node. record { cells = (e.keeps node).cells; ended = (e.keeps node).ended };
+  kind = e.kind;
+  fits = subst (λ hs. IsTrue (all_fit p.dtype (held_values hs))) (sym (e.keeps 0).cells) (held-fit p.dtype (eval 0 (whole f) t).cells (eval-fits 0 (whole f) fits t p.dtype e.kind));
+}
+
+-- ---- several expressions
+
+pub adds-none : (f : Frame) (old : List Input) → AddsExprs f [] old old
+adds-none f old = ([], sym (Rattle.std.proofs.Common.append-nil old), tt)
+
+pub adds-more : {E : Type 0} (f : Frame) (g : E → Tree) (es : List E) (i : ℕ) (e : E) (old before after : List Input) (new : Input) → i < length es → e ≡ get_or es i e
+    → AddsExprs f (map g (take i es)) old before → IsExprInput f (g e) new → after ≡ before ++ new ∷ [] → AddsExprs f (map g (take (i + 1) es)) old after
+adds-more f g es i e old before after new h at' a one grown =
+    let front = ap (map g) (take_more es i e h ∙ ap (λ y. take i es ++ y ∷ []) (sym at')) ∙ map-append g (take i es) (e ∷ []) in (
+      a.0 ++ new ∷ [],
+      grown ∙ ap (λ xs. xs ++ new ∷ []) a.1 ∙ append_assoc old a.0 (new ∷ []),
+      subst (λ ts. AllZip (IsExprInput f) ts (a.0 ++ new ∷ [])) (sym front) (zip-append (IsExprInput f) (map g (take i es)) (g e ∷ []) a.0 (new ∷ []) a.2 (one, tt)),
+    )
+
+pub adds-all : {E : Type 0} (f : Frame) (g : E → Tree) (es : List E) (i : ℕ) (old new : List Input) → length es ≤ i → i ≤ length es → AddsExprs f (map g (take i es)) old new → AddsExprs f (map g es) old new
+adds-all f g es i old new p q a = let e : i ≡ length es = omega arith in subst (λ xs. AddsExprs f (map g xs) old new) (ap (λ n. take n es) e ∙ take-length es) a
+
+-- ---- the columns of inputs
+
+pub some-fault : (n : ℕ) (before after : List Input) (i : Input) (f : Rattle.ps_frame.specs.declared.value.DataFault.DataFault) → HasFaultAt n i f → SomeFaultAt n (before ++ i ∷ after) f
+some-fault n [] after i f h = Rattle.std.proofs.Common.inl h
+some-fault n (j ∷ before) after i f h = Rattle.std.proofs.Common.inr (some-fault n before after i f h)

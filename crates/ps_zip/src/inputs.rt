@@ -1,0 +1,230 @@
+// What a zip takes.
+ghost use Rattle.std.specs.Prelude.{◌≡◌, ◌≤◌, [], IfOk, IsSome, IsTrue, MatchResult, OnOk, Some, length, map};
+ghost use Rattle.std.specs.List.{AllByRecursion, AllZip};
+ghost use Rattle.ps_eval.specs.Held.{first_bad, values_of};
+ghost use Rattle.ps_frame.specs.Aggregates.{max_rows};
+ghost use Rattle.ps_frame.specs.Frames.{broadcast_to, kinds_of};
+ghost use Rattle.ps_frame.specs.Lawful.{FitsFrame};
+ghost use Rattle.ps_frame.specs.Tables.{columns_of, field_kind, whole};
+ghost use Rattle.ps_frame.specs.Trees.{IsExpression, Tree as ATree, tree_at};
+ghost use Rattle.ps_frame.specs.Typed.{all_fit};
+ghost use Rattle.ps_frame.specs.Typing.{kind_over};
+ghost use Rattle.ps_plan.specs.Steps.{key_trees};
+ghost use Rattle.ps_zip.specs.Inputs.{AddsExprs, CanStand, FitsItsKind, HasFaultAt, Holds, IsColumnAt, IsExprInput, ending_in, kind_in};
+ghost use Rattle.ps_zip.specs.Zips.{AreTypedOver};
+ghost use Rattle.ps_zip.specs.declared.inputs.Input.TheVariants as input;
+
+use ps_eval::evaluate::part_of;
+use ps_eval::lengths::Ending;
+use ps_eval::part::{Part, Values};
+use ps_frame::column::Column;
+use ps_frame::expr::{AExpr, entry};
+use ps_frame::frame::DataFrame;
+use ps_frame::value::{DataFault, DataType};
+use ps_plan::ir::ExprIR;
+use pu_index::{Arena, Node};
+use pu_order::PlSmallStr;
+use std::alloc::{AllocError, Global};
+
+/// A column of the table, or one that was computed.
+#[derive(Drop)]
+pub enum Input {
+    Table(Column),
+    Computed(Part),
+}
+
+impl Input {
+    /// How it ends.
+    pub fn ending(&self) -> Ending
+        ensures { result ≡ ending_in self.now }
+    {
+        match self {
+            Input::Table(column) => Ending {
+                fault: None,
+                len: column.len(),
+            },
+            Input::Computed(part) => part.ending(),
+        }
+    }
+
+    /// Its column in so many rows, in each of which its only cell stands where it has one; or the
+    /// fault of its first faulty cell there.
+    ///
+    /// The outer result fails only for want of memory.
+    pub fn at_height(
+        self,
+        alloc: Global,
+        height: usize,
+    ) -> Result<Result<Column, DataFault>, AllocError>
+        requires { CanStand height self }
+        ensures { IfOk result (λ outcome. MatchResult outcome (IsColumnAt height self) (HasFaultAt height self)) }
+    {
+        match self {
+            Input::Table(column) => Ok(Ok(repeated(alloc, &column, height)?)),
+            Input::Computed(part) => computed_at_height(alloc, part, height),
+        }
+    }
+}
+
+fn computed_at_height(
+    alloc: Global,
+    part: Part,
+    height: usize,
+) -> Result<Result<Column, DataFault>, AllocError>
+    requires { CanStand height (input.Computed part) }
+    ensures { IfOk result (λ outcome. MatchResult outcome (IsColumnAt height (input.Computed part)) (HasFaultAt height (input.Computed part))) }
+{
+    let dtype = part.dtype;
+    if height == 0 {
+        return Ok(Ok(empty(alloc, dtype)?));
+    }
+    let outcome = part.settled(alloc)?;
+    match outcome {
+        Ok(values) => {
+            let column = column_of(alloc, dtype, values)?;
+            Ok(Ok(repeated(alloc, &column, height)?))
+        }
+        Err(fault) => Ok(Err(fault)),
+    }
+}
+
+// A column of values of its kind.
+fn column_of(alloc: Global, dtype: DataType, values: Values) -> Result<Column, AllocError>
+    requires { IsTrue (all_fit dtype (values_of values)) }
+    ensures { IfOk result (λ column. column ≡ record { kind = dtype; values = values_of values }) }
+{
+    match Column::new(alloc, dtype, values.into_vec(alloc)?) {
+        Ok(column) => Ok(column),
+        Err(_) => Err(AllocError),
+    }
+}
+
+fn empty(alloc: Global, dtype: DataType) -> Result<Column, AllocError>
+    ensures { IfOk result (λ column. column ≡ record { kind = dtype; values = [] }) }
+{
+    match Column::empty(alloc, dtype) {
+        Ok(column) => Ok(column),
+        Err(_) => Err(AllocError),
+    }
+}
+
+// A column at a height: its value is repeated where it has only one.
+fn repeated(alloc: Global, column: &Column, height: usize) -> Result<Column, AllocError>
+    ensures { IfOk result (λ c. c ≡ broadcast_to height column.now) }
+{
+    match column.broadcast(alloc, height) {
+        Ok(column) => Ok(column),
+        Err(_) => Err(AllocError),
+    }
+}
+
+/// The columns of a table, in order; their values are shared.
+///
+/// Fails only for want of memory.
+pub fn table_inputs(alloc: Global, df: &DataFrame) -> Result<Vec<Input>, AllocError>
+    ensures columns { IfOk result (λ inputs. AllZip Holds inputs.items (columns_of (whole df.now))) }
+    ensures kinds { IfOk result (λ inputs. map kind_in inputs.items ≡ kinds_of df.now.schema) }
+    ensures fit { IfOk result (λ inputs. AllByRecursion FitsItsKind inputs.items) }
+    ensures small { length df.now.rows ≤ max_rows }
+{
+    columns_inputs(alloc, df.get_columns())
+}
+
+fn columns_inputs(alloc: Global, columns: &[Column]) -> Result<Vec<Input>, AllocError>
+    ensures shared { IfOk result (λ inputs. inputs.items ≡ map input.Table columns.now) }
+    ensures fit { IfOk result (λ inputs. AllByRecursion FitsItsKind inputs.items) }
+{
+    let mut inputs = Vec::with_capacity(alloc, columns.len())?;
+    for column in columns {
+        inputs.push(table_input(alloc, column)?)?;
+    }
+    Ok(inputs)
+}
+
+fn table_input(alloc: Global, column: &Column) -> Result<Input, AllocError>
+    ensures shared { IfOk result (λ i. i ≡ input.Table column.now) }
+    ensures fits { IsTrue (all_fit column.now.kind column.now.values) }
+{
+    column.values_fit();
+    match column.share(alloc) {
+        Ok(column) => Ok(Input::Table(column)),
+        Err(_) => Err(AllocError),
+    }
+}
+
+/// Adds what expressions over a table give, in order.
+///
+/// Fails only for want of memory; some may then have been added.
+pub fn push_exprs(
+    alloc: Global,
+    inputs: &mut Vec<Input>,
+    exprs: &[ExprIR],
+    arena: &Arena<AExpr>,
+    df: &DataFrame,
+) -> Result<(), AllocError>
+    requires { AreTypedOver df.now.schema (key_trees (tree_at arena.now) exprs.now) }
+    ensures { OnOk result (AddsExprs df.now (key_trees (tree_at arena.now) exprs.now) inputs.old.items inputs.new.items) }
+{
+    for expr in exprs {
+        inputs.push(expr_input(alloc, expr.node, arena, df)?)?;
+    }
+    Ok(())
+}
+
+/// What an expression over a table gives: a column of the table, shared, or else what is computed.
+///
+/// Fails only for want of memory.
+pub fn expr_input(
+    alloc: Global,
+    expr: Node,
+    arena: &Arena<AExpr>,
+    df: &DataFrame,
+) -> Result<Input, AllocError>
+    requires expression { IsExpression arena.now expr }
+    requires kind { IsSome (kind_over df.now.schema (tree_at arena.now expr)) }
+    ensures { IfOk result (IsExprInput df.now (tree_at arena.now expr)) }
+{
+    match entry(expr, arena) {
+        AExpr::Column(name) => named_input(alloc, name, df),
+        _ => computed_input(alloc, expr, arena, df),
+    }
+}
+
+fn named_input(alloc: Global, name: &PlSmallStr, df: &DataFrame) -> Result<Input, AllocError>
+    requires { IsSome (field_kind name.now df.now.schema) }
+    ensures { IfOk result (IsExprInput df.now (ATree.column name.now)) }
+{
+    match df.schema().index_of(name.as_str()) {
+        Some(i) => table_input(alloc, df.column(i)),
+        None => unreachable!(),
+    }
+}
+
+fn computed_input(
+    alloc: Global,
+    expr: Node,
+    arena: &Arena<AExpr>,
+    df: &DataFrame,
+) -> Result<Input, AllocError>
+    requires expression { IsExpression arena.now expr }
+    requires kind { IsSome (kind_over df.now.schema (tree_at arena.now expr)) }
+    ensures { IfOk result (IsExprInput df.now (tree_at arena.now expr)) }
+{
+    table_fits(df);
+    Ok(Input::Computed(part_of(alloc, expr, arena, df)?))
+}
+
+// The values of a table are of the kinds of its fields: a law for proofs.
+fn table_fits(df: &DataFrame)
+    ensures { FitsFrame df.now }
+{
+    columns_fit(df.get_columns());
+}
+
+fn columns_fit(columns: &[Column])
+    ensures { AllByRecursion (λ c. IsTrue (all_fit c.kind c.values)) columns.now }
+{
+    for column in columns {
+        column.values_fit();
+    }
+}

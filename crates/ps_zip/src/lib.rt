@@ -1,0 +1,6 @@
+// Columns side by side: those of a table, and those of expressions over it.
+#![tactic(auto)]
+
+pub mod faults;
+pub mod inputs;
+pub mod zips;
