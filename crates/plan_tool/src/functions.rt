@@ -98,7 +98,8 @@ fn negate_all(alloc: Global, columns: &[Column]) -> Result<Vec<Column>, FrameErr
 {
     let mut done = Vec::with_capacity(alloc, columns.len())?;
     for column in columns {
-        let values = negate_values(alloc, column.values())?;
+        let run = column.run(alloc)?;
+        let values = negate_values(alloc, run.as_slice())?;
         done.push(Column::new(alloc, column.dtype(), values)?)?;
     }
     Ok(done)
@@ -109,7 +110,8 @@ fn reverse_all(alloc: Global, columns: &[Column]) -> Result<Vec<Column>, FrameEr
 {
     let mut done = Vec::with_capacity(alloc, columns.len())?;
     for column in columns {
-        let values = reverse_values(alloc, column.values())?;
+        let run = column.run(alloc)?;
+        let values = reverse_values(alloc, run.as_slice())?;
         done.push(Column::new(alloc, column.dtype(), values)?)?;
     }
     Ok(done)
@@ -156,7 +158,11 @@ mod tests {
     use std::test::Fail;
 
     fn first(df: &DataFrame) -> Option<i64> {
-        match df.get_columns().first()?.values().first()? {
+        let column = df.get_columns().first()?;
+        if column.is_empty() {
+            return None;
+        }
+        match column.value(0) {
             Value::Int64(z) => Some(*z),
             _ => None,
         }

@@ -58,7 +58,10 @@ fn rows_above(alloc: Global, df: &DataFrame, bound: &i64) -> PolarsResult<DataFr
     ensures rows { IfOk result (λ t. t.rows ≡ kept (map (λ v. binary_value op.Gt v (val.Int64 bound.now)) (values_at 0 df.now.rows)) df.now.rows) }
     ensures memory { OnErr result (result ≡ Err PolarsError.OutOfMemory) }
 {
-    let Ok(values) = above(alloc, df.column(0).values(), bound) else {
+    let Ok(run) = df.column(0).run(alloc) else {
+        return Err(PolarsError::OutOfMemory);
+    };
+    let Ok(values) = above(alloc, run.as_slice(), bound) else {
         return Err(PolarsError::OutOfMemory);
     };
     let Ok(mask) = Column::new(alloc, DataType::Boolean, values) else {

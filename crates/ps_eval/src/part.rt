@@ -8,14 +8,14 @@ ghost use Rattle.ps_frame.specs.declared.value.Cell.TheVariants as held;
 
 use crate::growing::as_cells;
 use crate::lengths::Ending;
-use ps_frame::column::Column;
+use ps_frame::run::Run;
 use ps_frame::value::{Cell, DataFault, DataType, Value};
 use std::alloc::{AllocError, Global};
 
-/// Values: those of a column, which are shared with it, or some of their own.
+/// Values: those of a run, which are shared, or some of their own.
 #[derive(Drop)]
 pub enum Values {
-    Shared(Column),
+    Shared(Run<Value>),
     Owned(Vec<Value>),
 }
 
@@ -25,7 +25,7 @@ impl Values {
         ensures { result.now ≡ values_of self.now }
     {
         match self {
-            Values::Shared(column) => column.values(),
+            Values::Shared(run) => run.as_slice(),
             Values::Owned(values) => values.as_slice(),
         }
     }
@@ -45,7 +45,7 @@ impl Values {
     {
         let count = to.saturating_sub(from);
         match self {
-            Values::Shared(column) => shared_slice(alloc, column, from, count),
+            Values::Shared(run) => Ok(Values::Shared(run.slice(from, count)?)),
             Values::Owned(values) => Ok(Values::Owned(copy_slice(
                 alloc,
                 values.as_slice(),
@@ -60,23 +60,9 @@ impl Values {
         ensures { IfOk result (λ values. values.items ≡ values_of self) }
     {
         match self {
-            Values::Shared(column) => copy_all(alloc, column.values()),
+            Values::Shared(run) => copy_all(alloc, run.as_slice()),
             Values::Owned(values) => Ok(values),
         }
-    }
-}
-
-fn shared_slice(
-    alloc: Global,
-    column: &Column,
-    from: usize,
-    count: usize,
-) -> Result<Values, AllocError>
-    ensures { IfOk result (λ part. values_of part ≡ take count (drop from column.now.values)) }
-{
-    match column.slice(alloc, from, count) {
-        Ok(column) => Ok(Values::Shared(column)),
-        Err(_) => Err(AllocError),
     }
 }
 

@@ -18,7 +18,8 @@ use ps_frame::value::{DataFault, DataType, Value};
 use pu_order::PlSmallStr;
 use std::alloc::{AllocError, Global};
 
-/// The column of a name, which stands in the table. Its values are shared.
+/// The column of a name, which stands in the table. Its values are shared where they lie one after
+/// another.
 pub fn column_part(alloc: Global, name: &PlSmallStr, df: &DataFrame) -> Result<Part, AllocError>
     requires { IsSome (field_kind name.now df.now.schema) }
     ensures { IfOk result (Evaluates df.now (ATree.column name.now)) }
@@ -34,10 +35,10 @@ fn shared_part(alloc: Global, column: &Column) -> Result<Part, AllocError>
     ensures cells { IfOk result (λ part. Keeps part (whole_column column.now.values)) }
 {
     let dtype = column.dtype();
-    match column.share(alloc) {
-        Ok(column) => Ok(Part {
+    match column.run(alloc) {
+        Ok(run) => Ok(Part {
             dtype,
-            cells: Cells::Whole(Values::Shared(column)),
+            cells: Cells::Whole(Values::Shared(run)),
             fault: None,
         }),
         Err(_) => Err(AllocError),

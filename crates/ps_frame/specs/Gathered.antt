@@ -1,6 +1,8 @@
 -- What stands at chosen places.
-use Rattle.std.specs.Prelude.{ℕ, List, [], map, get_or, Option, Some, None}
+use Rattle.std.specs.Prelude.{ℕ, List, [], length, map, get_or, Option, Some, None}
+use Rattle.ps_frame.specs.Frames.{kept}
 use Rattle.ps_frame.specs.Typed.{Typed}
+use Rattle.ps_frame.specs.Zip.{below}
 use Rattle.ps_frame.specs.declared.value.Value.{Value}
 use Rattle.ps_frame.specs.declared.value.Value.TheVariants as val
 
@@ -20,3 +22,12 @@ gathered_or_null places c = record { kind = c.kind; values = map (λ place. valu
 -- the rows of a table at these places, in this order
 abbrev pub rows_at : List ℕ → List (List Value) → List (List Value)
 rows_at places rows = map (λ i. get_or rows i []) places
+
+-- values as they are, or those of them that stand at some places
+abbrev pub picked : Option (List ℕ) → List Value → List Value
+picked None values = values
+picked (Some places) values = map (λ i. get_or values i val.Null) places
+
+-- the rows beside which a mask is true
+abbrev pub true_rows : List Value → List ℕ
+true_rows mask = kept mask (below (length mask))

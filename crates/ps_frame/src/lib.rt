@@ -11,6 +11,7 @@ pub mod functions;
 pub mod items;
 pub mod laws;
 pub mod refusal;
+pub mod run;
 pub mod schema;
 #[cfg(test)]
 mod tests;

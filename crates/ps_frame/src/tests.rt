@@ -61,9 +61,12 @@ fn two_columns(alloc: Global, a: u8, b: u8) -> Result<(Schema, Vec<Column>), Fra
     Ok((schema, columns))
 }
 
-fn is_number(value: Option<&Value>, number: i64) -> bool {
-    match value {
-        Some(Value::Int64(found)) => *found == number,
+fn has_number(column: &Column, i: usize, number: i64) -> bool {
+    if i >= column.len() {
+        return false;
+    }
+    match column.value(i) {
+        Value::Int64(found) => *found == number,
         _ => false,
     }
 }
@@ -107,8 +110,8 @@ fn one_value_is_repeated_to_three_rows(rt: HostRuntime) -> Result<(), Fail> {
     assert_eq!(rt; df.height(), 3);
     let columns = df.get_columns();
     assert_eq!(rt; columns.len(), 2);
-    assert!(rt; is_number(columns[0].values().get(2), 1));
-    assert!(rt; is_number(columns[1].values().get(2), 3));
+    assert!(rt; has_number(&columns[0], 2, 1));
+    assert!(rt; has_number(&columns[1], 2, 3));
     Ok(())
 }
 
@@ -147,7 +150,7 @@ fn a_filter_drops_false_and_null(rt: HostRuntime) -> Result<(), Fail> {
     let Some(column) = kept.get_columns().first() else {
         return Err(Fail::from("no column"));
     };
-    assert!(rt; is_number(column.values().get(0), 3));
+    assert!(rt; has_number(column, 0, 3));
     Ok(())
 }
 

@@ -131,19 +131,19 @@ module _ (F : Functions) (plan : Plan) (valid : IsValid F plan) where
   exprs-built n x reached is =
       exprs-each (tree_at plan.exprs) IsBuiltTree x (λ m c. own-built n m.0 reached (subst (λ (o : Option IR). Contains (named_by entry_exprs o) m.0) (sym is) c))
 
+  pub typed-step : (n : ℕ) (x : IR) → Reached plan n → slice_get plan.nodes n ≡ Some x → IsClean F plan (made_of F plan valid n x) → IsTypedStep F (entry_step (tree_at plan.exprs) x) (tree_schemas F (inputs_of F plan valid x))
+  typed-step n x reached is clean =
+      record {
+        kinds = step-kinds F (entry_step (tree_at plan.exprs) x) (tree_schemas F (inputs_of F plan valid x)) (exprs-built n x reached is) clean.2;
+        rules = clean.2;
+        alike = alike F (entry_step (tree_at plan.exprs) x) (tree_schemas F (inputs_of F plan valid x)) clean.2;
+        names = inputs-distinct F plan (inputs_of F plan valid x) clean.0;
+      }
+
   module _ (holds : EachReached HoldsFitting plan) where
     typed-inputs : (ns : List Node) → ((m : Node) → Contains (numbers ns) m.0 → IsTyped F (plan_at plan.nodes plan.exprs m)) → AreTyped F (plan_trees_of (plan_at plan.nodes plan.exprs) ns)
     typed-inputs [] all = tt
     typed-inputs (n ∷ ns) all = (all n (contains-first n.0 _), typed-inputs ns (λ m c. all m (contains-later n.0 m.0 _ c)))
-
-    typed-step : (n : ℕ) (x : IR) → Reached plan n → slice_get plan.nodes n ≡ Some x → IsClean F plan (made_of F plan valid n x) → IsTypedStep F (entry_step (tree_at plan.exprs) x) (tree_schemas F (inputs_of F plan valid x))
-    typed-step n x reached is clean =
-        record {
-          kinds = step-kinds F (entry_step (tree_at plan.exprs) x) (tree_schemas F (inputs_of F plan valid x)) (exprs-built n x reached is) clean.2;
-          rules = clean.2;
-          alike = alike F (entry_step (tree_at plan.exprs) x) (tree_schemas F (inputs_of F plan valid x)) clean.2;
-          names = inputs-distinct F plan (inputs_of F plan valid x) clean.0;
-        }
 
     typed-node : (n : ℕ) (x : IR) → Reached plan n → slice_get plan.nodes n ≡ Some x → ((m : Node) → Contains (numbers (entry_inputs x)) m.0 → IsTyped F (tree_of plan m.0)) → IsTyped F (tree_of plan n)
     typed-node n x reached is all =

@@ -11,10 +11,10 @@ use ps_frame::schema::Schema;
 use ps_frame::value::{DataType, Value};
 use std::alloc::Global;
 
-// The table of columns, one for each field of a schema that has fields.
-//
-// Fails only for want of memory.
-pub(crate) fn frame_of_columns(
+/// The table of columns, one for each field of a schema that has fields.
+///
+/// Fails only for want of memory.
+pub fn frame_of_columns(
     alloc: Global,
     schema: &Schema,
     columns: Vec<Column>,

@@ -3,10 +3,12 @@
 
 pub mod cut;
 mod fits;
-mod framed;
+pub mod framed;
 pub mod hconcat;
 pub mod pass;
 pub mod project;
 pub mod row_index;
+#[cfg(test)]
+mod tests;
 pub mod union;
 pub mod user;

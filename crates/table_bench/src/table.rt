@@ -101,8 +101,8 @@ fn weight(value: &Value) -> u64 {
 pub fn checksum(df: &DataFrame) -> u64 {
     let mut sum: u64 = 0;
     for column in df.get_columns() {
-        for value in column.values() {
-            sum = sum.wrapping_mul(31).wrapping_add(weight(value));
+        for i in 0..column.len() {
+            sum = sum.wrapping_mul(31).wrapping_add(weight(column.value(i)));
         }
     }
     sum

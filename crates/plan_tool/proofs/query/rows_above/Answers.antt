@@ -12,4 +12,4 @@ pub returns-in-Ok-filter-clause-rows : goal.returns-in-Ok-filter-clause-rows
 returns-in-Ok-filter-clause-rows c =
     c.in-Ok-filter.ensures.rows
     ∙ ap (λ (ms : List Value). kept ms c.args.df.now.rows)
-    (ap (λ (t : Typed). t.values) c.in-Ok-new.ensures.ok ∙ c.in-Ok.ensures ∙ ap (map (λ v. binary_value op.Gt v (val.Int64 c.args.bound.now))) (c.values.ensures ∙ c.column.ensures.values))
+    (ap (λ (t : Typed). t.values) c.in-Ok-new.ensures.ok ∙ c.in-Ok-above.ensures ∙ ap (map (λ v. binary_value op.Gt v (val.Int64 c.args.bound.now))) (c.as_slice.ensures ∙ c.in-Ok.ensures.same ∙ c.column.ensures.values))

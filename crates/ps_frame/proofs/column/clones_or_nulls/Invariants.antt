@@ -4,4 +4,4 @@ use Rattle.ps_frame.specs.Gathered.{value_or_null}
 use Rattle.ps_frame.proofs.column.clones_or_nulls.Given as goal
 
 abbrev pub invariant-loop-row : goal.invariant-loop-row
-invariant-loop-row l = l.out.items ≡ map (λ place. value_or_null l.values place) (take l.row-index l.rows)
+invariant-loop-row l = l.out.items ≡ map (λ place. value_or_null l.column.values place) (take l.row-index l.rows)

@@ -1,11 +1,11 @@
-use Rattle.std.proofs.Common.{refl}
-use Rattle.ps_frame.proofs.Gathers.{list_all-gathered_or_null}
-use Rattle.ps_frame.proofs.Lists.{list_all-drop, list_all-take}
+use Rattle.std.proofs.Common.{IsTrue, refl}
+use Rattle.ps_frame.proofs.Gathers.{list_all-gathered_or_null, list_all-picked}
+use Rattle.ps_frame.specs.Typed.{all_fit}
 use Rattle.ps_frame.specs.Values.{fits_kind}
 use Rattle.ps_frame.proofs.column.Column.gather_or_null.Goals as goal
 
-pub from_values-requires : goal.from_values-requires
-from_values-requires c =
+pub of_run-requires : goal.of_run-requires
+of_run-requires c =
     let a = c.self.inside in
-    rw (c.in_ok-values.ensures.picked, c.values.ensures, ← c.self.view_is)
-    (list_all-gathered_or_null (fits_kind a.dtype) _ c.args.rows.now refl (list_all-take (fits_kind a.dtype) a.len _ (list_all-drop (fits_kind a.dtype) a.start a.shared.value.items c.self.invariant.1)))
+    let mine : IsTrue (all_fit a.dtype c.args.self.now.values) = rw (← c.self.view_is) (list_all-picked (fits_kind a.dtype) a.places a.run refl c.self.invariant.1) in
+    rw (c.in_ok-run.ensures.made, c.in_ok-values.ensures.picked) (list_all-gathered_or_null (fits_kind a.dtype) c.args.self.now.values c.args.rows.now refl mine)

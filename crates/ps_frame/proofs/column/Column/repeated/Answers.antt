@@ -1,12 +1,10 @@
-use Rattle.std.proofs.Common.{IsTrue, drop}
-use Rattle.ps_frame.specs.Typed.{all_fit}
-use Rattle.ps_frame.specs.Values.{fits_kind}
-use Rattle.ps_frame.proofs.Lists.{list_all-at, list_all-drop, list_all-replicate, list_all-take}
+use Rattle.std.proofs.Common.{◌≡◌, subst, ◌∙◌}
+use Rattle.std.specs.Prelude.{IfOk}
+use Rattle.ps_frame.proofs.Gathers.{gathered-firsts}
+use Rattle.ps_frame.specs.Typed.{Typed}
 use Rattle.ps_frame.proofs.column.Column.repeated.Goals as goal
 
-pub from_values-requires : goal.from_values-requires
-from_values-requires c =
-    let a = c.self.inside in
-    let mine : IsTrue (all_fit a.dtype c.args.self.now.values) =
-    rw (← c.self.view_is) (list_all-take (fits_kind a.dtype) a.len (drop a.start a.shared.value.items) (list_all-drop (fits_kind a.dtype) a.start a.shared.value.items c.self.invariant.1)) in
-    rw c.in_ok-values.ensures.repeated (list_all-replicate (fits_kind a.dtype) c.args.height c.value.result.now (list_all-at (fits_kind a.dtype) c.args.self.now.values 0 c.value.result.now mine c.value.ensures))
+pub returns-clause-repeated : goal.returns-clause-repeated
+returns-clause-repeated c =
+    let same = gathered-firsts c.args.self.now c.args.height c.in_ok-firsts.firsts (c.in_ok-firsts.ensures.made ∙ c.in_ok-vec.ensures.items_if_clones_equal (λ y e. e)) in
+    subst (λ (t : Typed). IfOk c.pick.result (λ column. column ≡ t)) same c.pick.ensures.picked

@@ -1,28 +1,33 @@
-use Rattle.std.proofs.Common.{◌≡◌, ◌∙◌, length}
-use Rattle.ps_frame.proofs.Masks.{frame-kept_at, rows_of-kept_at}
-use Rattle.ps_frame.proofs.Rows.{length-rows_of}
+use Rattle.std.proofs.Common.{◌≡◌, ◌<◌, ◌≤◌, ℕ, List, [], length, subst, sym, ◌∙◌, ap, arith}
+use Rattle.std.proofs.lemmas.Grind.{common_steps}
+use Rattle.std.specs.List.{All}
+use Rattle.std.specs.Prelude.{IfOk}
+use Rattle.ps_frame.proofs.Gathers.{few-true_rows, kept-true_rows, within-true_rows}
+use Rattle.ps_frame.proofs.Masks.{kept-all}
+use Rattle.ps_frame.specs.Aggregates.{max_rows}
+use Rattle.ps_frame.specs.Gathered.{rows_at}
+use Rattle.ps_frame.specs.Tables.{Frame}
+use Rattle.ps_frame.specs.declared.value.Value.{Value}
 use Rattle.ps_frame.proofs.frame.DataFrame.keep.Goals as goal
-use Rattle.ps_frame.proofs.frame.DataFrame.keep.Goals.{After-as_slice, After-count_true-height}
 
-pub keep_all-requires-clause-height : goal.keep_all-requires-clause-height
-keep_all-requires-clause-height c =
-    let a = c.self.inside in
-    let long = rw (← c.self.view_is) at c.requires in
-    let e : length c.args.mask.now ≡ a.height = long ∙ length-rows_of a.height a.columns.items c.self.invariant.heights in
-    rw (c.as_slice.ensures.value, e) c.self.invariant.heights
+pub returns-then-count-height-clause-rows : goal.returns-then-count-height-clause-rows
+returns-then-count-height-clause-rows c =
+    let all = kept-all c.args.mask.now c.args.self.now.rows (sym c.count_true-count.ensures ∙ c.if-count-height.true ∙ c.height.ensures.rows ∙ sym c.requires) c.requires in
+    rw all (grind (arith, common_steps))
 
-pub invariant_of-result : goal.invariant_of-result
-invariant_of-result c =
-    let a = c.self.inside in
-    let long = rw (← c.self.view_is) at c.requires in
-    let e : length c.args.mask.now ≡ a.height = long ∙ length-rows_of a.height a.columns.items c.self.invariant.heights in
-    rw (c.in_ok-schema.ensures.same, c.in_ok-columns.ensures.chosen, c.as_slice.ensures.value, c.count_true-height.ensures)
-    (frame-kept_at a.schema c.args.mask.now a.columns.items a.height e c.self.invariant)
+pub pick-requires-clause-there : goal.pick-requires-clause-there
+pick-requires-clause-there c =
+    subst (λ (rows : List ℕ). All (λ i. i < length c.args.self.now.rows) rows) (sym (c.in_ok-rows.ensures.made ∙ c.in_ok-true_rows.ensures.chosen))
+    (within-true_rows c.args.mask.now (length c.args.self.now.rows) c.requires)
+
+pub pick-requires-clause-few : goal.pick-requires-clause-few
+pick-requires-clause-few c =
+    let counted = c.height.ensures.counted in
+    let e = c.requires in
+    let rows = c.height.ensures.rows in
+    subst (λ (rows : List ℕ). length rows ≤ max_rows) (sym (c.in_ok-rows.ensures.made ∙ c.in_ok-true_rows.ensures.chosen)) (few-true_rows c.args.mask.now max_rows (omega arith))
 
 pub returns-clause-rows : goal.returns-clause-rows
 returns-clause-rows c =
-    let a = c.self.inside in
-    let long = rw (← c.self.view_is) at c.requires in
-    let e : length c.args.mask.now ≡ a.height = long ∙ length-rows_of a.height a.columns.items c.self.invariant.heights in
-    rw (← c.self.view_is, c.in_ok-columns.ensures.chosen, c.as_slice.ensures.value, c.count_true-height.ensures)
-    (rows_of-kept_at c.args.mask.now a.columns.items a.height e c.self.invariant.heights)
+    let same = ap (λ (places : List ℕ). rows_at places c.args.self.now.rows) (c.in_ok-rows.ensures.made ∙ c.in_ok-true_rows.ensures.chosen) ∙ kept-true_rows c.args.mask.now c.args.self.now.rows [] c.requires in
+    subst (λ (rows : List (List Value)). IfOk c.pick.result (λ (f : Frame). f.rows ≡ rows)) same c.pick.ensures.rows

@@ -1,12 +1,12 @@
 use Rattle.ps_frame.proofs.Gathers.{frame-gathered, rows_of-gathered}
 use Rattle.ps_frame.proofs.Rows.{length-rows_of}
-use Rattle.ps_frame.proofs.frame.DataFrame.gather.Goals as goal
+use Rattle.ps_frame.proofs.frame.DataFrame.pick.Goals as goal
 
-pub gather_all-requires-clause-heights : goal.gather_all-requires-clause-heights
-gather_all-requires-clause-heights c = rw c.as_slice.ensures.value c.self.invariant.heights
+pub pick_all-requires-clause-heights : goal.pick_all-requires-clause-heights
+pick_all-requires-clause-heights c = rw c.as_slice.ensures.value c.self.invariant.heights
 
-pub gather_all-requires-clause-there : goal.gather_all-requires-clause-there
-gather_all-requires-clause-there c =
+pub pick_all-requires-clause-there : goal.pick_all-requires-clause-there
+pick_all-requires-clause-there c =
     let a = c.self.inside in
     let there = rw (← c.self.view_is) at c.requires.there in
     rw (length-rows_of a.height a.columns.items c.self.invariant.heights) at there
@@ -14,7 +14,7 @@ gather_all-requires-clause-there c =
 pub invariant_of-result : goal.invariant_of-result
 invariant_of-result c =
     let a = c.self.inside in
-    rw (c.in_ok-schema.ensures.same, c.in_ok-columns.ensures.picked, c.as_slice.ensures.value)
+    rw (c.in_ok-schema.ensures.same, c.in_ok-columns.ensures.picked, c.as_slice.ensures.value, c.len-height.ensures)
     (frame-gathered a.schema c.args.rows.now a.columns.items a.height c.self.invariant c.requires.few)
 
 pub returns-clause-rows : goal.returns-clause-rows
@@ -22,5 +22,5 @@ returns-clause-rows c =
     let a = c.self.inside in
     let there = rw (← c.self.view_is) at c.requires.there in
     let inside = rw (length-rows_of a.height a.columns.items c.self.invariant.heights) at there in
-    rw (← c.self.view_is, c.in_ok-columns.ensures.picked, c.as_slice.ensures.value)
+    rw (← c.self.view_is, c.in_ok-columns.ensures.picked, c.as_slice.ensures.value, c.len-height.ensures)
     (rows_of-gathered c.args.rows.now a.height a.columns.items c.self.invariant.heights inside)
