@@ -29,11 +29,11 @@ use Rattle.ps_typing.specs.Refused.{IsErrorAmong}
 use Rattle.ps_validate.specs.Fields.{IsFieldError, IsPushError, all_parts, not_scalar}
 
 -- the first expression's field goes to the end of those before
-fields-next : (p : Fields) (n : Name) (k : DataType) (r : Option Fields) → option_map (λ fs. p ++ fs) (both_of (λ (j : DataType) (fs : Fields). (n, j) ∷ fs) (Some k) r) ≡ option_map (λ fs. (p ++ (n, k) ∷ []) ++ fs) r
+pub fields-next : (p : Fields) (n : Name) (k : DataType) (r : Option Fields) → option_map (λ fs. p ++ fs) (both_of (λ (j : DataType) (fs : Fields). (n, j) ∷ fs) (Some k) r) ≡ option_map (λ fs. (p ++ (n, k) ∷ []) ++ fs) r
 fields-next p n k None = refl
 fields-next p n k (Some fs) = ap Some (sym (append_assoc p ((n, k) ∷ []) fs))
 
-names-next : (p : Fields) (n : Name) (k : DataType) (ns : List Name) → names_of (p ++ (n, k) ∷ []) ++ ns ≡ names_of p ++ (n ∷ ns)
+pub names-next : (p : Fields) (n : Name) (k : DataType) (ns : List Name) → names_of (p ++ (n, k) ∷ []) ++ ns ≡ names_of p ++ (n ∷ ns)
 names-next [] n k ns = refl
 names-next (f ∷ p) n k ns = ap (λ ms. f.0 ∷ ms) (names-next p n k ns)
 
@@ -41,12 +41,12 @@ pub among-has : (n : Name) (fs : Fields) → is_among n (names_of fs) ≡ has_na
 among-has n [] = refl
 among-has n (f ∷ fs) = ap (λ b. bytes_eq n f.0 || b) (among-has n fs)
 
-among-append : (n : Name) (ns ms : List Name) → is_among n (ns ++ n ∷ ms) ≡ true
+pub among-append : (n : Name) (ns ms : List Name) → is_among n (ns ++ n ∷ ms) ≡ true
 among-append n [] ms = or_left (bytes_eq n n) (is_among n ms) ((bytes_eq-Decides n n).1 refl)
 among-append n (x ∷ ns) ms = or_right (bytes_eq n x) (is_among n (ns ++ n ∷ ms)) (among-append n ns ms)
 
 -- a name that stands, once more
-repeats-again : (n : Name) (ns ms : List Name) → is_among n ns ≡ true → repeats n (ns ++ n ∷ ms) ≡ true
+pub repeats-again : (n : Name) (ns ms : List Name) → is_among n ns ≡ true → repeats n (ns ++ n ∷ ms) ≡ true
 repeats-again n [] ms h = cc
 repeats-again n (x ∷ ns) ms h = again (bytes_eq n x) (is_among n ns) (is_among n (ns ++ n ∷ ms)) (repeats n (ns ++ n ∷ ms)) h (among-append n ns ms) (λ k. repeats-again n ns ms k)
   where
@@ -133,6 +133,12 @@ module _ (f : Node → Tree) (s before : Fields) (all : List ExprIR) (i : ℕ) (
   pub passed-push : {T : Type 0} (at : Node) (n : Name) (x : PolarsError) (r : Result T PolarsError) → IsErrAnd r (λ y. y ≡ x) → n ≡ name_in e.output_name → IsPushError at now n x → IfErr r (IsFieldError at s (names_of before) (named_trees f all))
   passed-push at n x (Ok y) p same h = absurd p
   passed-push at n x (Err y) p same h = subst (λ z. IsFieldError at s (names_of before) (named_trees f all) z) (sym p) (push-error at n x same h)
+
+  -- the steps that were taken with this expression
+  pub next-steps : (more : ℕ) → more ≤ steps + tree_size (f e.node) → more ≤ first + all_sizes (exprs_of (named_trees f all))
+  next-steps more few =
+      let small : steps + all_sizes (exprs_of (named_trees f (e ∷ drop (i + 1) all))) ≤ first + all_sizes (exprs_of (named_trees f all)) = subst (λ es. steps + all_sizes (exprs_of (named_trees f es)) ≤ first + all_sizes (exprs_of (named_trees f all))) rest-is left.small in
+      omega arith
 
   pub next-left : (k : DataType) (then : Fields) (sc : Bool) (more : ℕ) → sc ≡ is_scalar (f e.node) → kind_over s (f e.node) ≡ Some k → then ≡ now ++ (name_in e.output_name, k) ∷ [] → has_name (name_in e.output_name) now ≡ false → more ≤ steps + tree_size (f e.node) → Left f s before all (i + 1) then (flag && sc) first more
   next-left k then sc more is_sc kind added fresh few =

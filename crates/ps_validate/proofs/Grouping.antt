@@ -23,11 +23,12 @@ use Rattle.ps_plan.specs.Schemas.{both as both_of, expr_names, fields_of, is_amo
 use Rattle.ps_plan.specs.Steps.{Cut, GroupStep, Name, Named, Step, exprs_of, group_by, group_step, named_trees, select}
 use Rattle.ps_plan.specs.declared.ir.ExprIR.{ExprIR}
 use Rattle.ps_typing.proofs.Parts.{AreAmong, among-left, among-right, carried}
-use Rattle.ps_validate.proofs.Selecting.{both-some, differ, lacks-none, names-same, select-error, select-typed}
+use Rattle.ps_validate.proofs.Selecting.{both-some, breaks-none, holds-none, lacks-none, names-same, select-error}
+use Rattle.ps_validate.proofs.Typed.{Shown, gives-by}
 use Rattle.ps_validate.specs.Fields.{IsFieldError, all_parts, not_scalar}
-use Rattle.ps_validate.specs.Nodes.{IsNodeError, IsTyped}
+use Rattle.ps_validate.specs.Nodes.{GivesSchema, IsNodeError}
 
-exprs-append : (ks as' : List Named) → exprs_of (ks ++ as') ≡ exprs_of ks ++ exprs_of as'
+pub exprs-append : (ks as' : List Named) → exprs_of (ks ++ as') ≡ exprs_of ks ++ exprs_of as'
 exprs-append [] as' = refl
 exprs-append (k ∷ ks) as' = ap (λ es. k.1 ∷ es) (exprs-append ks as')
 
@@ -35,7 +36,7 @@ names-append : (ks as' : List Named) → expr_names (ks ++ as') ≡ expr_names k
 names-append [] as' = refl
 names-append (k ∷ ks) as' = ap (λ ns. k.0 ∷ ns) (names-append ks as')
 
-parts-append : (xs ys : List Tree) → all_parts (xs ++ ys) ≡ all_parts xs ++ all_parts ys
+pub parts-append : (xs ys : List Tree) → all_parts (xs ++ ys) ≡ all_parts xs ++ all_parts ys
 parts-append [] ys = refl
 parts-append (x ∷ xs) ys = ap (λ ps. tree_parts x ++ ps) (parts-append xs ys) ∙ sym (append_assoc (tree_parts x) (all_parts xs) (all_parts ys))
 
@@ -56,7 +57,7 @@ fields-append s (e ∷ ks) as' p q h k =
     later None x rest q h = cc
     later (Some fs) x rest q h = (rest ++ fs, refl, cc)
 
-repeats-left : (n : Name) (ns ms : List Name) → repeats n ns ≡ true → repeats n (ns ++ ms) ≡ true
+pub repeats-left : (n : Name) (ns ms : List Name) → repeats n ns ≡ true → repeats n (ns ++ ms) ≡ true
 repeats-left n [] ms h = cc
 repeats-left n (x ∷ ns) ms h =
     wider (bytes_eq n x) (is_among n ns) (is_among n (ns ++ ms)) (repeats n ns) (repeats n (ns ++ ms)) h (λ p. list_any-append (bytes_eq n) ns ms ∙ or_left (is_among n ns) (is_among n ms) p) (λ p. repeats-left n ns ms p)
@@ -111,24 +112,17 @@ module _ (F : Functions) (at : Node) (s : Fields) (o : GroupStep) where
   group-error (error.OutOfBounds node why) h = h
 
   -- typed keys and aggregates with names that differ, of which the aggregates are scalar and none is of a literal
-  pub group-typed : (fs : Fields) → ((t : Tree) → is_some (kind_over s t) ≡ is_accepted s t) → fields_of (o.keys ++ o.aggregates) s ≡ Some fs → IsTrue (has_distinct_names fs) → fs ≢ [] → list_any not_scalar (exprs_of o.aggregates) ≡ false → list_any (some_part is_literal_aggregate) (exprs_of o.aggregates) ≡ false → IsTyped F (group_by o) (s ∷ [])
-  group-typed fs exact h d some scalar literal (column_not_found n) r = lacks-none s exact (o.keys ++ o.aggregates) fs n h (subst (λ es. lacks_column n s es ≡ true) (sym (exprs-append o.keys o.aggregates)) r)
-  group-typed fs exact h d some scalar literal (duplicate n) (inl r) = r
-  group-typed fs exact h d some scalar literal (duplicate n) (inr r) = differ fs n d (subst (λ ns. repeats n ns ≡ true) (sym (names-same s (o.keys ++ o.aggregates) fs h)) r)
-  group-typed fs exact h d some scalar literal schema_mismatch (inl r) = let q : false ≡ true = sym scalar ∙ r in cc
-  group-typed fs exact h d some scalar literal schema_mismatch (inr r) =
-      let whole : IsTyped F (select (o.keys ++ o.aggregates)) (s ∷ []) = select-typed F s (o.keys ++ o.aggregates) fs (ap (option_map (λ gs. [] ++ gs)) h) exact d some in
-      whole schema_mismatch (inr (subst (λ es. break_rules s es ≡ true) (sym (exprs-append o.keys o.aggregates)) r))
-  group-typed fs exact h d some scalar literal (unsupported w) r = unsupported-group w r
-    where
-      unsupported-group : (w : What) → TypingRefused F (group_by o) (s ∷ []) (unsupported w) → ⊥
-      unsupported-group what.NoColumns r = let same : Some fs ≡ Some [] = sym h ∙ r in some cc
-      unsupported-group what.LiteralAggregate r = let q : false ≡ true = sym literal ∙ r in cc
-      unsupported-group _ r = r
-  group-typed fs exact h d some scalar literal (invalid_plan w) r = r
-  group-typed fs exact h d some scalar literal no_key r = r
+  pub group-gives : (fs : Fields) → ((t : Tree) → is_some (kind_over s t) ≡ is_accepted s t) → fields_of (o.keys ++ o.aggregates) s ≡ Some fs → IsTrue (has_distinct_names fs) → fs ≢ [] → list_any not_scalar (exprs_of o.aggregates) ≡ false → list_any (some_part is_literal_aggregate) (exprs_of o.aggregates) ≡ false
+      → GivesSchema F (group_by o) (s ∷ []) fs
+  group-gives fs exact h d some scalar literal =
+      let es : List Named = o.keys ++ o.aggregates in
+      let split : exprs_of es ≡ exprs_of o.keys ++ exprs_of o.aggregates = exprs-append o.keys o.aggregates in
+      gives-by F (group_by o) (s ∷ []) fs (record { schema = h; names = sym (names-same s es fs h); distinct = d; some = some })
+      (λ n r. lacks-none s exact es fs n h (subst (λ ts. lacks_column n s ts ≡ true) (sym split) r)) (λ n r. r) (λ r. let q : false ≡ true = sym scalar ∙ r in cc)
+      (λ r. breaks-none s exact es fs h (subst (λ ts. break_rules s ts ≡ true) (sym split) r)) (λ r. let q : false ≡ true = sym literal ∙ r in cc)
+      (λ w c. holds-none s exact es fs h w (subst (λ ts. Contains (all_parts ts) (Tree.left_out w)) (sym split) c))
 
-keys-fields : (z s p : Fields) (ks : List Named) → z ≡ [] → option_map (λ fs. z ++ fs) (fields_of ks s) ≡ Some p → fields_of ks s ≡ Some p
+pub keys-fields : (z s p : Fields) (ks : List Named) → z ≡ [] → option_map (λ fs. z ++ fs) (fields_of ks s) ≡ Some p → fields_of ks s ≡ Some p
 keys-fields z s p ks none h = plain (fields_of ks s) p (ap (λ (r : Fields). option_map (λ fs. r ++ fs) (fields_of ks s)) (sym none) ∙ h)
   where
     plain : (o : Option Fields) (q : Fields) → option_map (λ fs. [] ++ fs) o ≡ Some q → o ≡ Some q
@@ -142,10 +136,3 @@ keys-names z s p ks none h = names-same s ks p (keys-fields z s p ks none h)
 -- the fields of both
 pub both-fields : (z s p q : Fields) (ks as' : List Named) → z ≡ [] → option_map (λ fs. z ++ fs) (fields_of ks s) ≡ Some p → option_map (λ fs. p ++ fs) (fields_of as' s) ≡ Some q → fields_of (ks ++ as') s ≡ Some q
 both-fields z s p q ks as' none h k = fields-append s ks as' p q (keys-fields z s p ks none h) k
-
--- a failure that a group-by passes on
-pub group-passed : {T : Type 0} (at : Node) (s : Fields) (f : Node → Tree) (keys aggs : List ExprIR) (x : PolarsError) (r : Result T PolarsError) → IsErrAnd r (λ y. y ≡ x) → IsFieldError at s [] (named_trees f keys ++ named_trees f aggs) x → IfErr r (λ e. (F : Functions) (maintain : Bool) (cut : Cut) → IsNodeError F at (group_step f keys aggs maintain cut) (s ∷ []) e)
-group-passed at s f keys aggs x (Ok y) p h = absurd p
-group-passed at s f keys aggs x (Err y) p h =
-    λ F maintain cut. subst (λ e. IsNodeError F at (group_step f keys aggs maintain cut) (s ∷ []) e) (sym p)
-    (group-error F at s (record { keys = named_trees f keys; aggregates = named_trees f aggs; maintain_order = maintain; cut = cut }) x h)

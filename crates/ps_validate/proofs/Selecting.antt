@@ -1,6 +1,6 @@
 -- Expressions that have kinds break no rule, and what is refused of them.
 use Rattle.std.proofs.Common.{◌≡◌, ◌≢◌, List, [], ◌∷◌, ◌++◌, Bool, true, false, refl, sym, subst, ◌∙◌, ap, inl, inr}
-use Rattle.std.specs.Prelude.{IfErr, IsErrAnd, Result, Ok, Err, not, ◌&&◌, ◌||◌, ◌⊎◌, IsTrue, IsFalse, Option, Some, None, option_map, is_some}
+use Rattle.std.specs.Prelude.{Contains, not, ◌&&◌, ◌||◌, ◌⊎◌, IsTrue, IsFalse, Option, Some, None, option_map, is_some}
 use Rattle.std.specs.List.{list_any}
 use Rattle.std.specs.Str.{bytes_eq}
 use Rattle.std.proofs.lemmas.Bool.{and_from, and_parts, or_cases, or_left}
@@ -24,11 +24,11 @@ use Rattle.ps_frame.specs.declared.value.DataType.TheVariants as kind
 use Rattle.ps_plan.specs.Refusals.{Refusal, TypingRefused, break_rules, column_not_found, duplicate, invalid_plan, lacks_column, no_key, repeats, schema_mismatch, unsupported}
 use Rattle.ps_plan.specs.Schemas.{both as both_of, expr_names, fields_of, is_among, names_of, output_schema}
 use Rattle.ps_plan.specs.Steps.{Name, Named, exprs_of, filter, select}
-use Rattle.ps_typing.proofs.Exact.{any-weaker, breaks-refused, none-refused, unknown-refused}
+use Rattle.ps_typing.proofs.Exact.{any-at, any-weaker, breaks-refused, none-refused, unknown-refused}
 use Rattle.ps_validate.proofs.Adding.{among-has}
 use Rattle.ps_typing.specs.Refused.{IsTypingError}
 use Rattle.ps_validate.specs.Fields.{IsFieldError, all_parts}
-use Rattle.ps_validate.specs.Nodes.{IsNodeError, IsTyped}
+use Rattle.ps_validate.specs.Nodes.{IsNodeError}
 
 never : {P : Type 0} (b : Bool) → b ≡ false → b ≡ true → P
 never true p q = cc
@@ -58,7 +58,7 @@ module _ (s : Fields) (exact : (t : Tree) → is_some (kind_over s t) ≡ is_acc
       let p = both-some e.0 (kind_over s e.1) (fields_of es s) fs h in
       elim (or_cases (reads_column n e.1) (list_any (reads_column n) (exprs_of es)) r) [ inl a ↦ reads-nothing e.1 p.0 n p.2 lacks a | inr b ↦ reads-none es p.1 n p.3 lacks b ]
 
-  breaks-none : (es : List Named) (fs : Fields) → fields_of es s ≡ Some fs → break_rules s (exprs_of es) ≡ true → ⊥
+  pub breaks-none : (es : List Named) (fs : Fields) → fields_of es s ≡ Some fs → break_rules s (exprs_of es) ≡ true → ⊥
   breaks-none [] fs h r = cc
   breaks-none (e ∷ es) fs h r =
       let p = both-some e.0 (kind_over s e.1) (fields_of es s) fs h in
@@ -72,6 +72,20 @@ module _ (s : Fields) (exact : (t : Tree) → is_some (kind_over s t) ≡ is_acc
       not-there : (b : Bool) → not b ≡ true → b ≡ false
       not-there true q = sym q
       not-there false q = refl
+
+-- what has a kind holds nothing that is left out
+pub refuses-left : (s : Fields) (w : What) → is_refused s (Tree.left_out w) ≡ true
+refuses-left s w = refl
+
+module _ (s : Fields) (exact : (t : Tree) → is_some (kind_over s t) ≡ is_accepted s t) where
+  passes-none : (es : List Named) (fs : Fields) → fields_of es s ≡ Some fs → list_any (some_part (is_refused s)) (exprs_of es) ≡ true → ⊥
+  passes-none [] fs h r = cc
+  passes-none (e ∷ es) fs h r =
+      let p = both-some e.0 (kind_over s e.1) (fields_of es s) fs h in
+      elim (or_cases (some_part (is_refused s) e.1) (list_any (some_part (is_refused s)) (exprs_of es)) r) [ inl a ↦ never (some_part (is_refused s) e.1) (none-refused s e.1 p.0 (exact e.1) p.2) a | inr b ↦ passes-none es p.1 p.3 b ]
+
+  pub holds-none : (es : List Named) (fs : Fields) → fields_of es s ≡ Some fs → (w : What) → Contains (all_parts (exprs_of es)) (Tree.left_out w) → ⊥
+  holds-none es fs h w c = passes-none es fs h (sym (any-parts (is_refused s) (exprs_of es)) ∙ any-at (is_refused s) (all_parts (exprs_of es)) c.0 (Tree.left_out w) c.1 c.2 (refuses-left s w))
 
 -- names that differ aren't repeated
 twice : (m n : Name) (fs : Fields) → not (has_name m fs) ≡ true → (bytes_eq n m ≡ true) × (is_among n (names_of fs) ≡ true) → ⊥
@@ -91,29 +105,6 @@ names-same s [] fs h = let is : fs ≡ [] = cc in ap names_of is
 names-same s (e ∷ es) fs h =
     let p = both-some e.0 (kind_over s e.1) (fields_of es s) fs h in ap names_of p.4 ∙ ap (λ ns. e.0 ∷ ns) (names-same s es p.1 p.3)
 
-added-first : (r : Option Fields) (fs : Fields) → option_map (λ gs. [] ++ gs) r ≡ Some fs → r ≡ Some fs
-added-first None fs h = cc
-added-first (Some gs) fs h = h
-
--- a select of typed expressions with names that differ
-module _ (F : Functions) (s : Fields) (es : List Named) (fs : Fields) (added : option_map (λ gs. [] ++ gs) (fields_of es s) ≡ Some fs) where
-  pub select-schema : output_schema F (select es) (s ∷ []) ≡ Some fs
-  select-schema = added-first (fields_of es s) fs added
-
-  pub select-typed : ((t : Tree) → is_some (kind_over s t) ≡ is_accepted s t) → IsTrue (has_distinct_names fs) → fs ≢ [] → IsTyped F (select es) (s ∷ [])
-  select-typed exact d some (column_not_found n) h = lacks-none s exact es fs n select-schema h
-  select-typed exact d some (duplicate n) (inl h) = h
-  select-typed exact d some (duplicate n) (inr h) = differ fs n d (subst (λ ns. repeats n ns ≡ true) (sym (names-same s es fs select-schema)) h)
-  select-typed exact d some schema_mismatch (inl h) = h
-  select-typed exact d some schema_mismatch (inr h) = breaks-none s exact es fs select-schema h
-  select-typed exact d some (unsupported w) h = unsupported-select w h
-    where
-      unsupported-select : (w : What) → TypingRefused F (select es) (s ∷ []) (unsupported w) → ⊥
-      unsupported-select what.NoColumns h = let same : Some fs ≡ Some [] = sym select-schema ∙ h in some cc
-      unsupported-select _ h = h
-  select-typed exact d some (invalid_plan w) h = h
-  select-typed exact d some no_key h = h
-
 -- what a select refuses
 pub select-error : (F : Functions) (at : Node) (s : Fields) (es : List Named) (e : PolarsError) → IsFieldError at s [] es e → IsNodeError F at (select es) (s ∷ []) e
 select-error F at s es (error.ColumnNotFound node name) h =
@@ -127,36 +118,6 @@ select-error F at s es (error.ComputeError node why) h = h
 select-error F at s es (error.ShapeMismatch node) h = h
 select-error F at s es (error.OutOfBounds node why) h = h
 
--- a failure that a select passes on
-pub select-passed : {T : Type 0} (at : Node) (s : Fields) (names : List Name) (es : List Named) (x : PolarsError) (r : Result T PolarsError) → IsErrAnd r (λ y. y ≡ x) → names ≡ [] → IsFieldError at s names es x → IfErr r (λ e. (F : Functions) → IsNodeError F at (select es) (s ∷ []) e)
-select-passed at s names es x (Ok y) p q h = absurd p
-select-passed at s names es x (Err y) p q h =
-    λ F. subst (λ e. IsNodeError F at (select es) (s ∷ []) e) (sym p) (select-error F at s es x (subst (λ ns. IsFieldError at s ns es x) q h))
-
-only : (b : Bool) → (b || false) ≡ true → b ≡ true
-only true h = refl
-only false h = h
-
--- a filter by a typed predicate over names that differ
-pub filter-typed : (F : Functions) (s : Fields) (e : Tree) → ((t : Tree) → is_some (kind_over s t) ≡ is_accepted s t) → kind_over s e ≡ Some kind.Boolean → IsTrue (has_distinct_names s) → s ≢ [] → IsTyped F (filter e) (s ∷ [])
-filter-typed F s e exact k d some (column_not_found n) h =
-    let p = and_parts (reads_column n e || false) (not (has_name n s)) h in reads-nothing s exact e kind.Boolean n k (absent-from (has_name n s) p.1) (only (reads_column n e) p.0)
-  where
-    absent-from : (b : Bool) → not b ≡ true → b ≡ false
-    absent-from true q = sym q
-    absent-from false q = refl
-filter-typed F s e exact k d some (duplicate n) (inl h) = h
-filter-typed F s e exact k d some (duplicate n) (inr h) = differ s n d h
-filter-typed F s e exact k d some schema_mismatch (inl h) = let q : false ≡ true = sym (ap (has_kind_where (is_not kind.Boolean)) k) ∙ h in cc
-filter-typed F s e exact k d some schema_mismatch (inr h) = breaks-nothing s exact e kind.Boolean k (only (some_part (breaks_rule s) e) h)
-filter-typed F s e exact k d some (unsupported w) h = unsupported-filter w h
-  where
-    unsupported-filter : (w : What) → TypingRefused F (filter e) (s ∷ []) (unsupported w) → ⊥
-    unsupported-filter what.NoColumns h = some cc
-    unsupported-filter _ h = h
-filter-typed F s e exact k d some (invalid_plan w) h = h
-filter-typed F s e exact k d some no_key h = h
-
 -- what a filter refuses of its predicate
 pub filter-error : (F : Functions) (at : Node) (s : Fields) (e : Tree) (x : PolarsError) → IsTypingError at s e x → IsNodeError F at (filter e) (s ∷ []) x
 filter-error F at s e (error.ColumnNotFound node name) h = (h.0, and_from (reads_column name e || false) (not (has_name name s)) (or_left (reads_column name e) false h.1) (ap not h.2))
@@ -168,10 +129,6 @@ filter-error F at s e (error.Duplicate node name) h = absurd h
 filter-error F at s e (error.ComputeError node why) h = h
 filter-error F at s e (error.ShapeMismatch node) h = h
 filter-error F at s e (error.OutOfBounds node why) h = h
-
-pub filter-passed : {T : Type 0} (at : Node) (s : Fields) (e : Tree) (x : PolarsError) (r : Result T PolarsError) → IsErrAnd r (λ y. y ≡ x) → IsTypingError at s e x → IfErr r (λ z. (F : Functions) → IsNodeError F at (filter e) (s ∷ []) z)
-filter-passed at s e x (Ok y) p h = absurd p
-filter-passed at s e x (Err y) p h = λ F. subst (λ z. IsNodeError F at (filter e) (s ∷ []) z) (sym p) (filter-error F at s e x h)
 
 -- a predicate of another kind
 pub filter-mismatch : (F : Functions) (at : Node) (s : Fields) (e : Tree) (k : DataType) → kind_over s e ≡ Some k → k ≢ kind.Boolean → IsNodeError F at (filter e) (s ∷ []) (error.SchemaMismatch at)

@@ -89,14 +89,14 @@ pub fn check_sort(
     options: &SortMultipleOptions,
 ) -> PolarsResult<()>
     ensures key { OnOk result (keys.now ≢ []) }
-    ensures descending { OnOk result (¬ FlagsMisfit options.now.descending.items (length keys.now)) }
-    ensures nulls_last { OnOk result (¬ FlagsMisfit options.now.nulls_last.items (length keys.now)) }
+    ensures descending { OnOk result (¬ FlagsMisfit options.now.descending (length keys.now)) }
+    ensures nulls_last { OnOk result (¬ FlagsMisfit options.now.nulls_last (length keys.now)) }
     ensures offset { OnOk result (¬ HasNegativeCut cut.now) }
     ensures refused { IfErr result (λ e. (f : Node → Tree) → IsStepError at (sort_step f keys.now cut.now options.now) e) }
 {
     if keys.is_empty()
-        || flags_misfit(&options.descending, keys.len())
-        || flags_misfit(&options.nulls_last, keys.len())
+        || flags_misfit(options.descending.as_slice(), keys.len())
+        || flags_misfit(options.nulls_last.as_slice(), keys.len())
     {
         return Err(PolarsError::InvalidPlan {
             node: at,

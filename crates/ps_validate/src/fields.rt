@@ -69,7 +69,7 @@ pub fn push_typed<L: Ledger>(
     ensures distinct { OnOk result (IsTrue (has_distinct_names schema.old) → IsTrue (has_distinct_names schema.new)) }
     ensures scalar { IfOk result (λ all. list_any not_scalar (exprs_of (named_trees (tree_at arena.now) exprs.now)) ≡ not all) }
     ensures refused { IfErr result (IsFieldError at input.now (names_of schema.old) (named_trees (tree_at arena.now) exprs.now)) }
-    ensures steps { OnOk result (steps.new ≤ steps.old + all_sizes (exprs_of (named_trees (tree_at arena.now) exprs.now))) }
+    ensures steps { steps.new ≤ steps.old + all_sizes (exprs_of (named_trees (tree_at arena.now) exprs.now)) }
 {
     let mut all_scalar = true;
     for expr in exprs {

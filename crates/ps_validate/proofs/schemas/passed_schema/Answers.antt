@@ -1,12 +1,13 @@
-use Rattle.std.proofs.lemmas.Bool.{iff_false}
-use Rattle.ps_validate.proofs.Passing.{cache-typed, sink-typed, slice-typed}
+use Rattle.ps_frame.specs.Functions.{Functions}
+use Rattle.ps_frame.specs.Tables.{Fields}
+use Rattle.ps_plan.specs.Steps.{Step}
+use Rattle.ps_validate.proofs.Passing.{passed-gives}
+use Rattle.ps_validate.proofs.Typed.{answered}
 use Rattle.ps_validate.proofs.schemas.passed_schema.Goals as goal
+use Rattle.ps_validate.specs.Nodes.{GivesSchema, PassesColumns}
+use Rattle.std.proofs.Common.{◌∷◌, []}
 
-pub returns-in-Ok-clause-slice : goal.returns-in-Ok-clause-slice
-returns-in-Ok-clause-slice c = λ F offset len. slice-typed F offset len c.args.input.now c.requires (iff_false c.is_empty.ensures c.if-is_empty.false)
-
-pub returns-in-Ok-clause-sink : goal.returns-in-Ok-clause-sink
-returns-in-Ok-clause-sink c = λ F payload. sink-typed F payload c.args.input.now c.requires (iff_false c.is_empty.ensures c.if-is_empty.false)
-
-pub returns-in-Ok-clause-cache : goal.returns-in-Ok-clause-cache
-returns-in-Ok-clause-cache c = λ F id. cache-typed F id c.args.input.now c.requires (iff_false c.is_empty.ensures c.if-is_empty.false)
+pub returns-clause-given : goal.returns-clause-given
+returns-clause-given c =
+    answered (λ (s : Fields). (F : Functions) (step : Step) → PassesColumns step → GivesSchema F step (c.args.input.now ∷ []) s) c.args.input.now c.shared_columns.result c.shared_columns.ensures.same c.shared_columns.ensures.some
+    (λ some F step p. passed-gives F step c.args.input.now p c.names_differ.ensures some)

@@ -1,0 +1,9 @@
+use Rattle.std.proofs.Common.{◌≡◌, take}
+use Rattle.std.specs.Prelude.{map}
+use Rattle.ps_plan.specs.Schemas.{names_of}
+use Rattle.ps_plan.specs.Steps.{name_in}
+use Rattle.ps_plan.specs.declared.ir.ExprIR.{ExprIR}
+use Rattle.ps_rows.proofs.hstack.new_names.Given as goal
+
+abbrev pub invariant-loop-expr : goal.invariant-loop-expr
+invariant-loop-expr l = names_of l.names ≡ map (λ (e : ExprIR). name_in e.output_name) (take l.expr-index l.exprs)

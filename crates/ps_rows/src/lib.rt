@@ -1,0 +1,8 @@
+// What the nodes with expressions make of whole tables.
+#![tactic(auto)]
+
+pub mod filter;
+pub mod hstack;
+pub mod keyed;
+pub mod select;
+pub mod sort;

@@ -1,0 +1,5 @@
+pub mod Standing
+pub mod ByRow
+pub mod Ignoring
+pub mod RowLaws
+pub mod OneCell

@@ -1,0 +1,16 @@
+use Rattle.ps_frame.specs.Frames.{has_distinct_names}
+use Rattle.ps_frame.specs.Tables.{Fields}
+use Rattle.ps_frame.specs.Trees.{tree_at}
+use Rattle.ps_frame.specs.declared.refusal.PolarsError.TheVariants as error
+use Rattle.ps_plan.specs.Schemas.{bare_names, names_of, without}
+use Rattle.ps_plan.specs.Steps.{key_trees}
+use Rattle.ps_validate.proofs.Distinctness.{repeats-memory, without-distinct}
+use Rattle.ps_validate.proofs.Typed.{memory-on}
+use Rattle.ps_validate.proofs.joins.without_keys.Goals as goal
+use Rattle.std.proofs.Common.{◌≡◌, ◌∙◌, ap, sym, subst}
+
+pub returns-in_err-push_without-clause-memory : goal.returns-in_err-push_without-clause-memory
+returns-in_err-push_without-clause-memory c =
+    let ns = bare_names (key_trees (tree_at c.args.arena.now) c.args.keys.now) in
+    memory-on c.in_err-push_without.field-0.0 c.from_residual-in_err-push_without.result c.from_residual-in_err-push_without.ensures.1
+    (repeats-memory c.args.at c.new-columns.result (without ns c.args.schema.now) c.in_err-push_without.field-0.0 c.new-columns.ensures (without-distinct ns c.args.schema.now c.names_differ.ensures) (c.in_err-push_without.ensures.refused ns c.in_ok-names.ensures.names))
