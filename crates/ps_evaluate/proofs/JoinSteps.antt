@@ -2,6 +2,7 @@
 use Rattle.std.proofs.Common.{◌≡◌, ◌≢◌, ℕ, suc, ◌⊎◌, List, [], ◌∷◌, ◌++◌, length, refl, sym, subst, ap, ◌∙◌, inl, inr, arith}
 use Rattle.std.specs.Prelude.{Bool, true, false, not, ◌&&◌, ◌||◌, IsTrue, IsSome, Option, Some, None, is_some, map, zip}
 use Rattle.std.specs.List.{AllByRecursion}
+use lib.Dec.{eqb}
 use Rattle.std.proofs.lemmas.Bool.Decides.{eqb_tells}
 use Rattle.std.proofs.lemmas.Option.{same_Some}
 use Rattle.pu_index.specs.declared.arena.Node.{Node}
@@ -29,7 +30,7 @@ use Rattle.ps_evaluate.proofs.RowSteps.{all-kinds}
 as-many : (n m : ℕ) → ¬ (n ≢ m) → n ≡ m
 as-many n m h = by (eqb_tells n m)
   where
-    by : ((_ ≡ true) × (n ≡ m)) ⊎ ((_ ≡ false) × (n ≢ m)) → n ≡ m
+    by : ((eqb n m ≡ true) × (n ≡ m)) ⊎ ((eqb n m ≡ false) × (n ≢ m)) → n ≡ m
     by (inl q) = q.1
     by (inr q) = absurd (h q.1)
 

@@ -69,4 +69,4 @@ pub filter-whole : (e : Tree) (fs : List Frame) (s : Fields) → IsReady (filter
 filter-whole e fs s r = r.1.fit.complete.0
 
 pub filter-kind : (e : Tree) (fs : List Frame) (d : Frame) (s : Fields) → fs ≡ d ∷ [] → IsReady (filter e) fs s → kind_over d.schema e ≡ Some kind.Boolean
-filter-kind e fs d s only r = ap (λ t. kind_over t e) (sym (first-of fs d only)) ∙ boolean-is _ r.1.fit.typed.kinds (λ h. r.1.fit.typed.rules schema_mismatch (inl (inl h)))
+filter-kind e fs d s only r = ap (λ t. kind_over t e) (sym (first-of fs d only)) ∙ boolean-is _ r.1.fit.typed.kinds (λ h. r.1.fit.typed.rules schema_mismatch (inl h))
