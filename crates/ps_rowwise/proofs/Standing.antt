@@ -235,7 +235,8 @@ module _ (rows : List (List Value)) (ended : Bool) where
   spread-cellwise node f os all some = (
     ap (map (cell_of_row f)) (spread-rows os all some) ∙ map-map (cell_of_row f) (cells_for os) rows,
     broken-is node os all some,
-    λ h. ap (λ cs. cs ++ unseen_causes false (zip_length false (extents (columns os))) (columns os)) (none-lost os all h) ∙ none-unseen (zip_length false (extents (columns os))) rows (columns os) (spread-length os all some) h)
+    λ h. ap (λ cs. cs ++ unseen_causes false (zip_length false (extents (columns os))) (columns os)) (none-lost os all h) ∙ none-unseen (zip_length false (extents (columns os))) rows (columns os) (spread-length os all some) h,
+  )
 
   -- the columns of lone operands
   abbrev lone_columns : List Operand → List Column

@@ -18,11 +18,11 @@ use Rattle.ps_plan.proofs.Complete.{numbers}
 use Rattle.ps_plan.proofs.ReachedSteps.{contains-first, contains-later}
 
 -- the first item, or a later one
-first-or-later : {A : Type 0} (x : A) (xs : List A) (y : A) → Contains (x ∷ xs) y → (x ≡ y) ⊎ Contains xs y
+pub first-or-later : {A : Type 0} (x : A) (xs : List A) (y : A) → Contains (x ∷ xs) y → (x ≡ y) ⊎ Contains xs y
 first-or-later x xs y (zero, h, e) = inl e
 first-or-later x xs y (suc k, h, e) = inr (k, omega (arith, h), e)
 
-no-item : {A : Type 0} (y : A) → Contains [] y → ⊥
+pub no-item : {A : Type 0} (y : A) → Contains [] y → ⊥
 no-item y (k, h, e) = omega (arith, h)
 
 -- an operand of the entry that holds the part

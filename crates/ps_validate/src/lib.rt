@@ -1,13 +1,20 @@
-// What a node of a plan refuses, and the schema that it gives.
+// Valid plans: what a node of a plan refuses, the schema that it gives, and the plan whose nodes all give one.
 #![tactic(auto)]
 
+pub mod caches;
 pub mod columns;
 pub mod entries;
 pub mod fields;
 pub mod functions;
 pub mod joins;
 pub mod keys;
+pub mod laws;
+pub mod nodes;
+pub mod places;
 pub mod projections;
 pub mod schemas;
 pub mod stacks;
 pub mod table;
+#[cfg(test)]
+mod tests;
+pub mod validate;

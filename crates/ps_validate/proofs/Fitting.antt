@@ -1,0 +1,40 @@
+-- Entries that fit, and what is refused of others.
+use Rattle.std.proofs.Common.{◌≡◌, ◌≢◌, ℕ, List, [], ◌∷◌, Ok, Err, Result, refl, sym, subst, ap, inl, inr}
+use Rattle.std.specs.Prelude.{◌⊎◌, IfErr, OnErr, OnOk}
+use Rattle.pu_index.specs.declared.arena.Node.{Node}
+use Rattle.ps_frame.specs.Trees.{Tree}
+use Rattle.ps_frame.specs.declared.refusal.Compute.{Compute}
+use Rattle.ps_frame.specs.declared.refusal.Compute.TheVariants as compute
+use Rattle.ps_frame.specs.declared.refusal.PolarsError.{PolarsError}
+use Rattle.ps_frame.specs.declared.refusal.PolarsError.TheVariants as error
+use Rattle.ps_frame.specs.declared.refusal.Why.{Why}
+use Rattle.ps_frame.specs.declared.refusal.Why.TheVariants as why
+use Rattle.ps_plan.specs.Laws.{IsBuilt}
+use Rattle.ps_plan.specs.Refusals.{FlagsMisfit, HasBadKeys, HasNegativeCut, HasNoKey, IsFileSink, IsNegative, IsSinkStep, IsValidation, KeysMisfit, NamesMissingFunction}
+use Rattle.ps_plan.specs.Steps.{Cut, DistinctStep, Step, distinct, entry_inputs, entry_step, function_step, group_step, hconcat, join, key_trees, named_trees, sink, slice, sort, sort_step, union}
+use Rattle.ps_plan.specs.declared.ir.FunctionIR.{FunctionIR}
+use Rattle.ps_plan.specs.declared.ir.FunctionIR.TheVariants as call
+use Rattle.ps_plan.specs.declared.ir.IR.{IR}
+use Rattle.ps_plan.specs.declared.ir.IR.TheVariants as entry
+use Rattle.ps_validate.specs.Entries.{IsStepError}
+use Rattle.ps_validate.specs.Fit.{IsEntryError, IsWellFormed}
+
+-- what a step is refused for by itself its entry is refused for
+pub step-error : (count : ℕ) (at : Node) (step : Step) (inputs : List Node) (e : PolarsError) → IsStepError at step e → IsEntryError count at step inputs e
+step-error count at step inputs (error.InvalidPlan node w) h = by w h
+  where
+    by : (w : Why) → IsStepError at step (error.InvalidPlan node w) → IsEntryError count at step inputs (error.InvalidPlan node w)
+    by why.Keys h = h
+    by _ h = absurd h
+step-error count at step inputs (error.Unsupported node w) h = (h.0, inl h.1)
+step-error count at step inputs (error.ComputeError node w) h = by w h
+  where
+    by : (w : Compute) → IsStepError at step (error.ComputeError node w) → IsEntryError count at step inputs (error.ComputeError node w)
+    by compute.NoKey h = h
+    by _ h = absurd h
+step-error count at step inputs (error.ColumnNotFound node name) h = absurd h
+step-error count at step inputs (error.Duplicate node name) h = absurd h
+step-error count at step inputs (error.SchemaMismatch node) h = absurd h
+step-error count at step inputs (error.ShapeMismatch node) h = absurd h
+step-error count at step inputs (error.OutOfBounds node w) h = absurd h
+step-error count at step inputs error.OutOfMemory h = absurd h

@@ -1,0 +1,6 @@
+use Rattle.ps_survey.specs.Flaws.{plan_of}
+use Rattle.ps_validate.proofs.Checking.{Checking}
+use Rattle.ps_validate.proofs.validate.node_schemas.Given as goal
+
+abbrev pub invariant-loop-node : goal.invariant-loop-node
+invariant-loop-node g l = Checking (record { count = g.F.Functions.counted l.functions; streams = g.F.Functions.streams; answer = g.F.Functions.answer; declared = g.F.Functions.declared }) (plan_of l.root l.ir l.exprs) l.order l.node-index l.schemas l.initial.steps l.steps

@@ -1,0 +1,131 @@
+//! Valid plans.
+ghost use Rattle.std.specs.Prelude.{◌≡◌, ◌+◌, ◌*◌, ◌≤◌, ℕ, IfErr, IfOk, OnOk, length};
+ghost use Rattle.ps_frame.specs.declared.expr.AExpr.{AExpr};
+ghost use Rattle.ps_frame.specs.declared.refusal.Why.{Why};
+ghost use Rattle.ps_plan.specs.Graph.{Reached};
+ghost use Rattle.ps_plan.specs.Refusals.{IsValid};
+ghost use Rattle.ps_survey.specs.Counts.{all_names};
+ghost use Rattle.ps_survey.specs.Flaws.{Flaw, plan_of};
+ghost use Rattle.ps_survey.specs.Surveys.{IsSurvey};
+ghost use Rattle.ps_walks.specs.Fit.{HasSchemas};
+ghost use Rattle.ps_validate.specs.Fit.{HaveOneInput};
+ghost use Rattle.ps_validate.specs.Known.{IsKnown, schema_in};
+ghost use Rattle.ps_validate.specs.Valid.{HaveSchemas, IsPlanError, IsValidWith};
+
+use crate::caches::check_caches;
+use crate::nodes::check_node;
+use crate::table::Schemas;
+use ps_frame::expr::AExpr;
+use ps_frame::functions::Functions;
+use ps_frame::refusal::PolarsResult;
+use ps_frame::schema::Schema;
+use ps_plan::ir::IR;
+use ps_survey::survey::survey_plan;
+use pu_index::{Arena, Node};
+use pu_order::Steps;
+use std::alloc::Global;
+use std::marker::Model;
+use std::sync::ledger::Ledger;
+
+/// The nodes of a valid plan, with the schema of each node that the root leads to.
+#[derive(Drop)]
+pub struct Valid {
+    root: Node,
+    ir: Arena<IR>,
+    schemas: Schemas,
+}
+
+impl Model for Valid {
+    ghost use Rattle.ps_validate.specs.Valid.{ValidNodes};
+
+    ghost Value = { ValidNodes };
+
+    ghost view = { λ v. record { root = v.root; nodes = v.ir; schemas = v.schemas } };
+}
+
+impl Valid {
+    /// The root of the plan.
+    pub fn root(&self) -> Node
+        ensures { result ≡ self.now.root }
+    {
+        self.root
+    }
+
+    /// The nodes.
+    pub fn ir(&self) -> &Arena<IR>
+        ensures { result.now ≡ self.now.nodes }
+    {
+        &self.ir
+    }
+
+    /// The schema of a node that the root leads to.
+    pub fn schema(&self, node: Node) -> &Schema
+        requires { IsKnown self.now.schemas node }
+        ensures { result.now ≡ schema_in self.now.schemas node }
+    {
+        self.schemas.get(node)
+    }
+}
+
+// The schemas of nodes, each of which stands after its inputs.
+fn node_schemas<F: Functions, L: Ledger>(
+    alloc: Global,
+    root: Node,
+    order: &[usize],
+    ir: &Arena<IR>,
+    exprs: &Arena<AExpr>,
+    functions: &F,
+    steps: &mut Steps<L>,
+) -> PolarsResult<Schemas>
+    requires survey { IsSurvey (plan_of root ir.now exprs.now) order.now }
+    requires flaws { (n : ℕ) (w : Why) → Reached (plan_of root ir.now exprs.now) n → ¬ Flaw (plan_of root ir.now exprs.now) n w }
+    requires caches { HaveOneInput ir.now order.now }
+    ensures valid { OnOk result (IsValid (record { count = F.counted functions.now; streams = F.streams; answer = F.answer; declared = F.declared }) (plan_of root ir.now exprs.now)) }
+    ensures schemas { IfOk result (λ s. HaveSchemas (record { count = F.counted functions.now; streams = F.streams; answer = F.answer; declared = F.declared }) (plan_of root ir.now exprs.now) s) }
+    ensures typed { OnOk result (HasSchemas (record { count = F.counted functions.now; streams = F.streams; answer = F.answer; declared = F.declared }) (plan_of root ir.now exprs.now)) }
+    ensures refused { IfErr result (λ e. IsPlanError (record { count = F.counted functions.now; streams = F.streams; answer = F.answer; declared = F.declared }) (plan_of root ir.now exprs.now) e) }
+    ensures steps { steps.new ≤ steps.old + 2 * 65536 }
+{
+    let mut schemas = Schemas::new(alloc, ir.len())?;
+    for node in order {
+        steps.tick();
+        let at = Node(*node);
+        let schema = check_node(
+            alloc,
+            root,
+            at,
+            ir.get(at),
+            exprs,
+            functions,
+            &schemas,
+            steps,
+        )?;
+        schemas.set(at, schema);
+    }
+    Ok(schemas)
+}
+
+/// The plan of a root, if it is valid.
+///
+/// A refusal stands for one that holds at a node which the root leads to; any one may be answered. Else it fails only
+/// for want of memory. No function is called. It looks at each entry and each number that names one at most four
+/// times, and at each of the 65536 nodes and expressions to which the root may unfold at most eight times.
+pub fn validate<F: Functions, L: Ledger>(
+    alloc: Global,
+    root: Node,
+    ir: Arena<IR>,
+    exprs: &Arena<AExpr>,
+    functions: &F,
+    steps: &mut Steps<L>,
+) -> PolarsResult<Valid>
+    ensures root { IfOk result (λ v. v.root ≡ root) }
+    ensures nodes { IfOk result (λ v. v.nodes ≡ ir) }
+    ensures valid { IfOk result (λ v. IsValidWith (record { count = F.counted functions.now; streams = F.streams; answer = F.answer; declared = F.declared }) v exprs.now) }
+    ensures refused { IfErr result (λ e. IsPlanError (record { count = F.counted functions.now; streams = F.streams; answer = F.answer; declared = F.declared }) (plan_of root ir exprs.now) e) }
+    ensures steps { steps.new ≤ steps.old + 4 * (length ir + length exprs.now + all_names ir exprs.now) + 8 * 65536 }
+{
+    let survey = survey_plan(alloc, root, &ir, exprs, steps)?;
+    check_caches(alloc, survey.order(), &ir, steps)?;
+    let schemas = node_schemas(alloc, root, survey.order(), &ir, exprs, functions, steps)?;
+    Ok(Valid { root, ir, schemas })
+}
