@@ -54,9 +54,7 @@ fn expressions(alloc: Global) -> Result<Arena<AExpr>, PolarsUtilsError>
         input: a,
         function: FunctionExpr::Reverse,
     })?;
-    let text = arena.add(AExpr::Literal(LiteralValue::String(PlSmallStr::from_str(
-        alloc, "x",
-    )?)))?;
+    let text = arena.add(AExpr::Literal(LiteralValue::String(PlSmallStr::from_str(alloc, "x")?)))?;
     arena.add(AExpr::Cast {
         expr: text,
         dtype: DataType::Int64,
