@@ -1,2 +1,4 @@
 pub mod OverInputs
 pub mod TableSteps
+pub mod RowSteps
+pub mod JoinSteps

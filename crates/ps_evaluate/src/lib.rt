@@ -2,4 +2,5 @@
 #![tactic(auto)]
 
 mod inputs;
+mod rows;
 mod tables;
