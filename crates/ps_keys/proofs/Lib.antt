@@ -5,3 +5,4 @@ pub mod Numberings
 pub mod KeyChains
 pub mod Places
 pub mod Parts
+pub mod KeptRows

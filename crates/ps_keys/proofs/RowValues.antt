@@ -58,7 +58,7 @@ have_row h i (c ∷ cs) p below zero d within = let e = p.0 in omega arith
 have_row h i (c ∷ cs) p below (suc k) d within = have_row h i cs p.1 below k d (omega arith)
 
 -- the numbers below, from the front
-below-front : (n : ℕ) → below (suc n) ≡ 0 ∷ map suc (below n)
+pub below-front : (n : ℕ) → below (suc n) ≡ 0 ∷ map suc (below n)
 below-front zero = refl
 below-front (suc n) = ap (λ xs. xs ++ suc n ∷ []) (below-front n) ∙ ap (λ xs. 0 ∷ xs) (sym (map-push (below n) n))
   where
@@ -66,7 +66,7 @@ below-front (suc n) = ap (λ xs. xs ++ suc n ∷ []) (below-front n) ∙ ap (λ 
     map-push [] x = refl
     map-push (y ∷ xs) x = ap (λ ys. suc y ∷ ys) (map-push xs x)
 
-map-map : {A B C : Type 0} (g : B → C) (f : A → B) (xs : List A) → map g (map f xs) ≡ map (λ x. g (f x)) xs
+pub map-map : {A B C : Type 0} (g : B → C) (f : A → B) (xs : List A) → map g (map f xs) ≡ map (λ x. g (f x)) xs
 map-map g f [] = refl
 map-map g f (x ∷ xs) = ap (λ ys. g (f x) ∷ ys) (map-map g f xs)
 
