@@ -1,11 +1,11 @@
 -- What a distinct keeps, by the numbers of the rows.
-use Rattle.std.proofs.Common.{◌≡◌, ℕ, zero, suc, ◌+◌, ◌<◌, ◌≤◌, List, [], ◌∷◌, ◌++◌, length, get_or, map, take, drop, replicate, Bool, true, false, cond, refl, sym, ap, subst, ◌∙◌, arith}
+use Rattle.std.proofs.Common.{◌≡◌, ℕ, zero, suc, ◌+◌, ◌<◌, ◌≤◌, List, [], ◌∷◌, ◌++◌, length, get_or, map, take, drop, Bool, true, false, cond, refl, sym, ap, subst, ◌∙◌, arith}
 use Rattle.std.specs.Prelude.{◌==◌, ◌||◌, not, filter as kept}
 use Rattle.std.specs.List.{All, list_any}
 use Rattle.std.proofs.lemmas.List.{get_or-map, length-map}
 use Rattle.ps_frame.specs.Frames.{AllOfHeight, column_values}
 use Rattle.ps_frame.specs.Gathered.{rows_at}
-use Rattle.ps_frame.specs.Tables.{beside, rows_of, values_at}
+use Rattle.ps_frame.specs.Tables.{rows_of, values_at}
 use Rattle.ps_frame.specs.Typed.{Typed}
 use Rattle.ps_frame.specs.Values.{same_row}
 use Rattle.ps_frame.specs.Zip.{below}
@@ -19,7 +19,7 @@ use Rattle.ps_keys.specs.declared.numbering.Numbering.{Numbering}
 use Rattle.ps_keys.proofs.FirstRows.{firsts-at, firsts_by-picked, kept-below}
 use Rattle.ps_keys.proofs.KeptRows.{items_at-next, kept-at, kept-all, kept_below-few, kept-front}
 use Rattle.ps_keys.proofs.Numberings.{keys-below, keys-length, keys-match}
-use Rattle.ps_tables.proofs.Projected.{heights-at}
+use Rattle.ps_tables.proofs.Projected.{heights-at, rows-picked}
 use Rattle.ps_groups.specs.Places.{comes_again, kept_places, last_places, single_places}
 
 module _ (places : List ℕ) where
@@ -116,19 +116,7 @@ module _ (keys : List (List Value)) (n : Numbering) (of : Numbers keys n) where
 
 -- the rows of the columns at some places
 pub picked-heights : (rows : List (List Value)) (places : List ℕ) (cs : List Typed) → column_values cs ≡ map (λ i. values_at i rows) places → AllOfHeight (length rows) cs
-picked-heights rows places cs e = heights-at rows places cs e
-
-no-columns : (rows : List (List Value)) → replicate (length rows) [] ≡ map (picked []) rows
-no-columns [] = refl
-no-columns (r ∷ rows) = ap (λ more. [] ∷ more) (no-columns rows)
-
-beside-picked : (k : ℕ) (ks : List ℕ) (rows : List (List Value)) → beside (values_at k rows) (map (picked ks) rows) ≡ map (picked (k ∷ ks)) rows
-beside-picked k ks [] = refl
-beside-picked k ks (r ∷ rows) = ap (λ more. picked (k ∷ ks) r ∷ more) (beside-picked k ks rows)
-
-rows-picked : (rows : List (List Value)) (ks : List ℕ) → rows_of (length rows) (map (λ i. values_at i rows) ks) ≡ map (picked ks) rows
-rows-picked rows [] = no-columns rows
-rows-picked rows (k ∷ ks) = ap (beside (values_at k rows)) (rows-picked rows ks) ∙ beside-picked k ks rows
+picked-heights rows places cs e = heights-at rows places cs (length rows) refl e
 
 pub picked-rows : (rows : List (List Value)) (places : List ℕ) (cs : List Typed) → column_values cs ≡ map (λ i. values_at i rows) places → rows_of (length rows) (column_values cs) ≡ map (picked places) rows
 picked-rows rows places cs e = ap (rows_of (length rows)) e ∙ rows-picked rows places
