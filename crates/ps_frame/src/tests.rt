@@ -154,6 +154,36 @@ fn a_filter_drops_false_and_null(rt: HostRuntime) -> Result<(), Fail> {
     Ok(())
 }
 
+// Two rows, of which both are there.
+fn two_rows(alloc: Global, df: &DataFrame, a: usize, b: usize) -> Result<DataFrame, FrameError> {
+    if a >= df.height() || b >= df.height() {
+        return Err(FrameError::Height);
+    }
+    df.gather(alloc, &[a, b])
+}
+
+// The value at a place that is there, and a null below it.
+fn value_and_null(alloc: Global, column: &Column, i: usize) -> Result<Column, FrameError> {
+    if i >= column.len() {
+        return Err(FrameError::Height);
+    }
+    column.gather_or_null(alloc, &[Some(i), None])
+}
+
+#[test]
+fn rows_are_picked_of_picked_rows(rt: HostRuntime) -> Result<(), Fail> {
+    let df = table(rt.alloc(), "a", 3)?;
+    let last_and_first = two_rows(rt.alloc(), &df, 2, 0)?;
+    let turned = two_rows(rt.alloc(), &last_and_first, 1, 0)?;
+    let Some(column) = turned.get_columns().first() else {
+        return Err(Fail::from("no column"));
+    };
+    assert!(rt; has_number(column, 0, 1) && has_number(column, 1, 3));
+    let run = value_and_null(rt.alloc(), column, 1)?.run(rt.alloc())?;
+    assert!(rt; matches!(run.as_slice(), [Value::Int64(3), Value::Null]));
+    Ok(())
+}
+
 #[test]
 fn a_slice_is_clipped_and_shares(rt: HostRuntime) -> Result<(), Fail> {
     let df = table(rt.alloc(), "a", 3)?.share(rt.alloc())?;
