@@ -1,5 +1,7 @@
-use Rattle.std.proofs.Common.{◌≡◌, map, arith, rules, sym, ap, subst, ◌∙◌}
+use Rattle.std.proofs.Common.{◌≡◌, length, map, arith, rules, refl, sym, ap, subst, ◌∙◌}
 use Rattle.std.proofs.lemmas.List.{length-map}
+use Rattle.ps_frame.specs.Tables.{rows_of}
+use Rattle.ps_frame.specs.Frames.{column_values}
 use Rattle.ps_frame.specs.Zip.{below}
 use Rattle.ps_keys.specs.Hashes.{row_at}
 use Rattle.ps_keys.specs.Numbering.{Numbers}
