@@ -1,11 +1,13 @@
 -- What the step of a node refuses by itself, whatever its inputs.
-use Rattle.std.specs.Prelude.{◌≡◌}
+use Rattle.std.specs.Prelude.{◌≡◌, ℕ, ⊤}
 use Rattle.pu_index.specs.declared.arena.Node.{Node}
 use Rattle.ps_frame.specs.declared.expr.What.{What}
 use Rattle.ps_frame.specs.declared.expr.What.TheVariants as what
+use Rattle.ps_frame.specs.declared.refusal.Compute.{Compute}
 use Rattle.ps_frame.specs.declared.refusal.Compute.TheVariants as compute
 use Rattle.ps_frame.specs.declared.refusal.PolarsError.{PolarsError}
 use Rattle.ps_frame.specs.declared.refusal.PolarsError.TheVariants as error
+use Rattle.ps_frame.specs.declared.refusal.Why.{Why}
 use Rattle.ps_frame.specs.declared.refusal.Why.TheVariants as why
 use Rattle.ps_plan.specs.Refusals.{HasBadKeys, HasNegativeOffset, HasNoKey, IsFileSink, IsValidated}
 use Rattle.ps_plan.specs.Steps.{Step}
