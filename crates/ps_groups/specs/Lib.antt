@@ -1,2 +1,5 @@
 pub mod Places
 pub mod Subsets
+pub mod Tables
+pub mod Grouped
+pub mod Errors
