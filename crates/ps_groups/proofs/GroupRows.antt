@@ -61,9 +61,6 @@ module _ (at : ℕ) (s : Fields) (rows : List (List Value)) (trees : List Tree) 
   abbrev keys : List (List Value)
   keys = keys_of (length s) rows
 
-  key : ℕ → List Value
-  key k = get_or keys k []
-
   length-frames : length (key_frames s rows) ≡ length keys
   length-frames = length-map keys (key_frame s rows)
 

@@ -9,3 +9,4 @@ pub mod GroupGives
 pub mod AggregateLoops
 pub mod Grouping
 pub mod Results
+pub mod Tested

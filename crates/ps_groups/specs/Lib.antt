@@ -3,3 +3,4 @@ pub mod Subsets
 pub mod Tables
 pub mod Grouped
 pub mod Errors
+pub mod Tested

@@ -6,3 +6,5 @@ pub mod distinct;
 pub mod group_by;
 mod places;
 mod tables;
+#[cfg(test)]
+mod tests;
