@@ -1,6 +1,9 @@
 // The computation of a node of a plan, whatever it is.
 #![tactic(auto)]
 
+pub mod entry;
+mod groups;
 mod inputs;
+mod joins;
 mod rows;
 mod tables;
