@@ -4,3 +4,4 @@ pub mod RowSteps
 pub mod GroupSteps
 pub mod JoinSteps
 pub mod Entries
+pub mod NodeSteps

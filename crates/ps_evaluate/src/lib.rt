@@ -5,5 +5,6 @@ pub mod entry;
 mod groups;
 mod inputs;
 mod joins;
+pub mod node;
 mod rows;
 mod tables;
