@@ -1,6 +1,6 @@
 -- The step of a node that a valid plan reaches, over tables that fit its inputs.
 use Rattle.std.proofs.Common.{◌≡◌, ℕ, List, [], ◌∷◌, length, refl, suc, sym, subst, ap, ◌∙◌}
-use Rattle.std.specs.Prelude.{IfErr, IfOk, IfSome, Option, Some, None, Ok, Err, map, slice_get, unwrap_or}
+use Rattle.std.specs.Prelude.{IfErr, IfOk, IfSome, Option, Some, Ok, Err, slice_get, unwrap_or}
 use Rattle.pu_index.specs.declared.arena.Node.{Node}
 use Rattle.ps_frame.specs.Functions.{Functions, IsLawful}
 use Rattle.ps_frame.specs.Tables.{Fields, Frame, whole}
