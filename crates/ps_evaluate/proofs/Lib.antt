@@ -5,3 +5,4 @@ pub mod GroupSteps
 pub mod JoinSteps
 pub mod Entries
 pub mod NodeSteps
+pub mod Copied

@@ -1,6 +1,7 @@
 // The computation of a node of a plan, whatever it is.
 #![tactic(auto)]
 
+pub mod copies;
 pub mod entry;
 mod groups;
 mod inputs;
