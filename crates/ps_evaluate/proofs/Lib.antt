@@ -6,3 +6,4 @@ pub mod JoinSteps
 pub mod Entries
 pub mod NodeSteps
 pub mod Copied
+pub mod NamedCopies

@@ -284,7 +284,7 @@ fn copy_literal(alloc: Global, literal: &LiteralValue) -> Result<LiteralValue>
     }
 }
 
-fn copy_flags(alloc: Global, flags: &[bool]) -> Result<Items<bool>>
+pub(crate) fn copy_flags(alloc: Global, flags: &[bool]) -> Result<Items<bool>>
     ensures { IfOk result (λ copy. copy ≡ flags.now) }
 {
     let mut copies = Vec::with_capacity(alloc, flags.len())?;

@@ -6,6 +6,7 @@ pub mod entry;
 mod groups;
 mod inputs;
 mod joins;
+mod maps;
 pub mod node;
 mod rows;
 mod tables;
