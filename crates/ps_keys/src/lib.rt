@@ -5,3 +5,5 @@ pub mod key_rows;
 pub mod numbering;
 mod rows;
 mod table;
+#[cfg(test)]
+mod tests;

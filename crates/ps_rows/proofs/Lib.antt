@@ -6,3 +6,4 @@ pub mod Rows
 pub mod Selecting
 pub mod Sorting
 pub mod Steps
+pub mod Tested

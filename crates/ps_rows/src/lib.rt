@@ -6,3 +6,5 @@ pub mod hstack;
 pub mod keyed;
 pub mod select;
 pub mod sort;
+#[cfg(test)]
+mod tests;

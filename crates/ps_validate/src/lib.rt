@@ -15,4 +15,6 @@ pub mod projections;
 pub mod schemas;
 pub mod stacks;
 pub mod table;
+#[cfg(test)]
+mod tests;
 pub mod validate;

@@ -1,0 +1,65 @@
+// Keys of a few rows, numbered by hand.
+use crate::key_rows::rows_by_key;
+use crate::numbering::number_rows;
+use ps_frame::column::Column;
+use ps_frame::frame::DataFrame;
+use ps_frame::schema::Schema;
+use ps_frame::value::{DataType, Value};
+use pu_order::PlSmallStr;
+use std::alloc::Global;
+use std::test::Fail;
+
+fn text(alloc: Global, text: &str) -> Result<Value, Fail> {
+    match PlSmallStr::from_str(alloc, text) {
+        Ok(text) => Ok(Value::String(text)),
+        Err(_) => Err(Fail::from("out of memory")),
+    }
+}
+
+fn texts(alloc: Global) -> Result<Column, Fail> {
+    let mut values = Vec::new(alloc);
+    for value in ["a", "b", "a", "a", "b"] {
+        values.push(text(alloc, value)?)?;
+    }
+    Ok(Column::new(alloc, DataType::String, values)?)
+}
+
+fn numbers(alloc: Global) -> Result<Column, Fail> {
+    let mut values = Vec::new(alloc);
+    for value in [
+        Value::Int64(1),
+        Value::Null,
+        Value::Int64(1),
+        Value::Null,
+        Value::Null,
+    ] {
+        values.push(value)?;
+    }
+    Ok(Column::new(alloc, DataType::Int64, values)?)
+}
+
+// Rows ("a", 1), ("b", null), ("a", 1), ("a", null), ("b", null).
+fn table(alloc: Global) -> Result<DataFrame, Fail> {
+    let mut schema = Schema::new(alloc);
+    schema.push(alloc, PlSmallStr::from_str(alloc, "s")?, DataType::String)?;
+    schema.push(alloc, PlSmallStr::from_str(alloc, "n")?, DataType::Int64)?;
+    let columns = vec![in alloc; texts(alloc)?, numbers(alloc)?]?;
+    Ok(DataFrame::new(alloc, schema, columns)?)
+}
+
+#[test]
+fn rows_are_numbered_by_their_keys(rt: HostRuntime) -> Result<(), Fail> {
+    let df = table(rt.alloc())?;
+    let numbering = number_rows(rt.alloc(), df.get_columns(), df.height())?;
+    assert_eq!(rt; numbering.keys.as_slice(), [0, 1, 0, 2, 1].as_slice());
+    assert_eq!(rt; numbering.firsts.as_slice(), [0, 1, 3].as_slice());
+    Ok(())
+}
+
+#[test]
+fn rows_of_each_key_stand_together(rt: HostRuntime) -> Result<(), Fail> {
+    let rows = rows_by_key(rt.alloc(), &[0, 1, 0, 2, 1], 3)?;
+    assert_eq!(rt; rows.all(), [0, 2, 1, 4, 3].as_slice());
+    assert_eq!(rt; rows.len(), 3);
+    Ok(())
+}
