@@ -7,3 +7,5 @@ pub mod Entries
 pub mod NodeSteps
 pub mod Copied
 pub mod NamedCopies
+pub mod FieldSteps
+pub mod OwnedSteps

@@ -3,10 +3,12 @@
 
 pub mod copies;
 pub mod entry;
+mod fields;
 mod groups;
 mod inputs;
 mod joins;
 mod maps;
 pub mod node;
+pub mod owned;
 mod rows;
 mod tables;
