@@ -1,1 +1,4 @@
+pub mod Copies
+pub mod Nodes
+pub mod Owned
 pub mod Ready

@@ -1,10 +1,8 @@
 -- What the tables are that distinct and group-by give.
 use Rattle.std.proofs.Common.{◌≡◌, ℕ, List, [], ◌∷◌, Bool, true, false, refl, inl}
-use Rattle.std.specs.Prelude.{map}
 use Rattle.std.proofs.lemmas.List.Sorted.{IsPermutation-refl}
 use Rattle.ps_frame.specs.Functions.{Functions}
-use Rattle.ps_frame.specs.Tables.{Fields, Frame, whole}
-use Rattle.ps_frame.specs.declared.value.Value.{Value}
+use Rattle.ps_frame.specs.Tables.{Frame, whole}
 use Rattle.ps_plan.specs.Cases.{cut_by, rows_table}
 use Rattle.ps_plan.specs.Distinct.{kept_rows, subset_places}
 use Rattle.ps_plan.specs.Nodes.{GivesFrame}

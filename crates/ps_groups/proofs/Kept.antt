@@ -1,5 +1,5 @@
 -- What a distinct keeps, by the numbers of the rows.
-use Rattle.std.proofs.Common.{◌≡◌, ℕ, zero, suc, ◌+◌, ◌<◌, ◌≤◌, List, [], ◌∷◌, ◌++◌, length, get_or, map, take, drop, Bool, true, false, cond, refl, sym, ap, subst, ◌∙◌, arith}
+use Rattle.std.proofs.Common.{◌≡◌, ℕ, suc, ◌+◌, ◌<◌, ◌≤◌, List, [], ◌∷◌, length, get_or, map, take, drop, Bool, true, false, cond, refl, sym, ap, subst, ◌∙◌, arith}
 use Rattle.std.specs.Prelude.{◌==◌, ◌||◌, not, filter as kept}
 use Rattle.std.specs.List.{All, list_any}
 use Rattle.std.proofs.lemmas.List.{get_or-map, length-map}
@@ -10,7 +10,7 @@ use Rattle.ps_frame.specs.Typed.{Typed}
 use Rattle.ps_frame.specs.Values.{same_row}
 use Rattle.ps_frame.specs.Zip.{below}
 use Rattle.ps_frame.specs.declared.value.Value.{Value}
-use Rattle.ps_plan.specs.Distinct.{kept_rows, first_rows, last_rows, single_rows, picked, same_key}
+use Rattle.ps_plan.specs.Distinct.{kept_rows, last_rows, single_rows, picked, same_key}
 use Rattle.ps_plan.specs.declared.ir.UniqueKeepStrategy.{UniqueKeepStrategy}
 use Rattle.ps_plan.specs.declared.ir.UniqueKeepStrategy.TheVariants as keep
 use Rattle.ps_keys.specs.KeyRows.{AreBelow}
@@ -102,6 +102,9 @@ module _ (keys : List (List Value)) (n : Numbering) (of : Numbers keys n) where
   pub keys-below-firsts : AreBelow (length n.firsts.items) n.keys.items
   keys-below-firsts i within = keys-below keys n of i (omega (arith, keys-length keys n of))
 
+  pub firsts-few : length n.firsts.items ≤ length keys
+  firsts-few = omega (arith, ap length of.firsts, kept_below-few (length keys) (λ i. not (list_any (same_row (get_or keys i [])) (take i keys))))
+
   pub kept_places-below : (how : UniqueKeepStrategy) → All (λ i. i < length keys) (kept_places how n)
   kept_places-below keep.First = subst (All (λ i. i < length keys)) (sym of.firsts) (kept-all (length keys) (λ i. not (list_any (same_row (get_or keys i [])) (take i keys))))
   kept_places-below keep.Any = subst (All (λ i. i < length keys)) (sym of.firsts) (kept-all (length keys) (λ i. not (list_any (same_row (get_or keys i [])) (take i keys))))
@@ -109,8 +112,8 @@ module _ (keys : List (List Value)) (n : Numbering) (of : Numbers keys n) where
   kept_places-below keep.None = subst (λ m. All (λ i. i < m) (single_places n.keys.items)) (keys-length keys n of) (kept-all (length n.keys.items) (λ i. length (places_of (get_or n.keys.items i 0) n.keys.items) == 1))
 
   pub kept_places-few : (how : UniqueKeepStrategy) → length (kept_places how n) ≤ length keys
-  kept_places-few keep.First = omega (arith, ap length of.firsts, kept_below-few (length keys) (λ i. not (list_any (same_row (get_or keys i [])) (take i keys))))
-  kept_places-few keep.Any = omega (arith, ap length of.firsts, kept_below-few (length keys) (λ i. not (list_any (same_row (get_or keys i [])) (take i keys))))
+  kept_places-few keep.First = firsts-few
+  kept_places-few keep.Any = firsts-few
   kept_places-few keep.Last = omega (arith, keys-length keys n of, kept_below-few (length n.keys.items) (λ i. not (comes_again n.keys.items i)))
   kept_places-few keep.None = omega (arith, keys-length keys n of, kept_below-few (length n.keys.items) (λ i. length (places_of (get_or n.keys.items i 0) n.keys.items) == 1))
 

@@ -1,3 +1,12 @@
 pub mod Lasts
 pub mod Kept
 pub mod Gives
+pub mod Parts
+pub mod Values
+pub mod KeyTables
+pub mod GroupRows
+pub mod GroupGives
+pub mod AggregateLoops
+pub mod Grouping
+pub mod Results
+pub mod Tested

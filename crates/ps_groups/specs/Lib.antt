@@ -1,2 +1,6 @@
 pub mod Places
 pub mod Subsets
+pub mod Tables
+pub mod Grouped
+pub mod Errors
+pub mod Tested

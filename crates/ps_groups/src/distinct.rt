@@ -41,7 +41,11 @@ pub fn distinct(alloc: Global, options: &DistinctOptions, df: &DataFrame) -> Pol
 }
 
 // The rows at these places.
-fn gathered(alloc: Global, df: &DataFrame, rows: &[usize]) -> Result<DataFrame, AllocError>
+pub(crate) fn gathered(
+    alloc: Global,
+    df: &DataFrame,
+    rows: &[usize],
+) -> Result<DataFrame, AllocError>
     requires there { All (λ i. i < length df.now.rows) rows.now }
     requires few { length rows.now ≤ max_rows }
     ensures schema { IfOk result (λ f. f.schema ≡ df.now.schema) }

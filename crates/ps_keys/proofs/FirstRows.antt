@@ -155,14 +155,17 @@ length-below zero = refl
 length-below (suc n) = let e = length_push (below n) n in let f = length-below n in omega arith
 
 -- what stands at a number in a list of what the numbers give
-pub row-below : {A : Type 0} (f : ℕ → List A) (n i : ℕ) → i < n → get_or (map f (below n)) i [] ≡ f i
-row-below f zero i within = absurd (omega arith)
-row-below f (suc n) i within =
-    ap (λ xs. get_or xs i []) (map_push f (below n) n)
-    ∙ at (cases_lt i n) (row-below f n i)
+pub at-below : {A : Type 0} (f : ℕ → A) (n i : ℕ) (d : A) → i < n → get_or (map f (below n)) i d ≡ f i
+at-below f zero i d within = absurd (omega arith)
+at-below f (suc n) i d within =
+    ap (λ xs. get_or xs i d) (map_push f (below n) n)
+    ∙ at (cases_lt i n) (at-below f n i d)
   where
-    at : (i < n) ⊎ (n ≤ i) → (i < n → get_or (map f (below n)) i [] ≡ f i) → get_or (map f (below n) ++ f n ∷ []) i [] ≡ f i
-    at (inl before) rest = get_or_append_left (map f (below n)) (f n ∷ []) [] i (omega (arith, length-map (below n) f, length-below n)) ∙ rest before
+    at : (i < n) ⊎ (n ≤ i) → (i < n → get_or (map f (below n)) i d ≡ f i) → get_or (map f (below n) ++ f n ∷ []) i d ≡ f i
+    at (inl before) rest = get_or_append_left (map f (below n)) (f n ∷ []) d i (omega (arith, length-map (below n) f, length-below n)) ∙ rest before
     at (inr past) rest =
         let here : n ≡ i = omega arith in
-        get_or_push (map f (below n)) (f n) [] i (length-map (below n) f ∙ length-below n ∙ here) ∙ ap f here
+        get_or_push (map f (below n)) (f n) d i (length-map (below n) f ∙ length-below n ∙ here) ∙ ap f here
+
+pub row-below : {A : Type 0} (f : ℕ → List A) (n i : ℕ) → i < n → get_or (map f (below n)) i [] ≡ f i
+row-below f n i within = at-below f n i [] within

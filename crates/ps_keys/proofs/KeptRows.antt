@@ -72,3 +72,11 @@ all-below n xs e = subst (All (λ i. i < n)) (sym (e ∙ sym (kept-every (below 
     kept-every : (ys : List ℕ) → kept (λ i. true) ys ≡ ys
     kept-every [] = refl
     kept-every (y ∷ ys) = ap (λ zs. y ∷ zs) (kept-every ys)
+
+-- what is made of each place is made of each item
+pub map-places : {A B : Type 0} (g : A → B) (xs : List A) (d : A) (f : ℕ → B) → ((k : ℕ) → k < length xs → f k ≡ g (get_or xs k d)) → map f (below (length xs)) ≡ map g xs
+map-places g [] d f each = refl
+map-places g (x ∷ xs) d f each =
+    ap (map f) (below-front (length xs))
+    ∙ ap (λ ys. f 0 ∷ ys) (map-map f suc (below (length xs)) ∙ map-places g xs d (λ k. f (suc k)) (λ k within. each (suc k) (omega arith)))
+    ∙ ap (λ y. y ∷ map g xs) (each 0 (omega arith))

@@ -183,6 +183,23 @@ module _ (rows : List (List Value)) (n : Numbering) (of : Numbers rows n) (i j :
       by (inl same) = eq-eqb (get_or n.keys.items j 0) (get_or n.keys.items i 0) same ∙ sym (same_row-from (get_or rows i []) (get_or rows j []) (same_key (sym same)))
       by (inr other) = ne_eqb (get_or n.keys.items j 0) (get_or n.keys.items i 0) other ∙ sym (same_row-not (get_or rows i []) (get_or rows j []) (λ e. other (sym (same_number e))))
 
+-- a row has a number where it is the distinct row of that number
+pub key-matches : (rows : List (List Value)) (n : Numbering) (of : Numbers rows n) (k i : ℕ) → k < length n.firsts.items → i < length rows → (get_or n.keys.items i 0 == k) ≡ same_row (get_or (distinct_rows rows) k []) (get_or rows i [])
+key-matches rows n of k i in_k in_i = by (cases_eq (get_or n.keys.items i 0) k)
+  where
+    found : slice_get (distinct_rows rows) k ≡ Some (get_or (distinct_rows rows) k [])
+    found = slice_get-get_or (distinct_rows rows) k [] (omega (arith, distinct-length rows n of))
+
+    by : (get_or n.keys.items i 0 ≡ k) ⊎ (get_or n.keys.items i 0 ≡ k → ⊥) → (get_or n.keys.items i 0 == k) ≡ same_row (get_or (distinct_rows rows) k []) (get_or rows i [])
+    by (inl same) =
+        let like : get_or (distinct_rows rows) k [] ≡ get_or rows i [] =
+        same_Some (get_or (distinct_rows rows) k []) (get_or rows i []) (sym found ∙ ap (slice_get (distinct_rows rows)) (sym same) ∙ key-at rows n of i in_i) in
+        eq-eqb (get_or n.keys.items i 0) k same ∙ sym (same_row-from (get_or (distinct_rows rows) k []) (get_or rows i []) like)
+    by (inr other) =
+        ne_eqb (get_or n.keys.items i 0) k other
+        ∙ sym (same_row-not (get_or (distinct_rows rows) k []) (get_or rows i []) (λ e.
+        other (one-place (distinct_rows rows) (get_or n.keys.items i 0) k (get_or rows i []) (distinct-apart rows) (key-at rows n of i in_i) (found ∙ ap Some e))))
+
 -- the numbers of rows that are counted up, one row more
 pub numbers-step : (row : ℕ → List Value) (i k : ℕ) (n m : Numbering) → Numbers (map row (below i)) n → IsNumbered row n.firsts.items m.firsts.items i k → m.keys.items ≡ n.keys.items ++ k ∷ [] → Numbers (map row (below (i + 1))) m
 numbers-step row i k n m of is keys =

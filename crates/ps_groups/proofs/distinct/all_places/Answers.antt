@@ -1,5 +1,4 @@
-use Rattle.std.proofs.Common.{◌≡◌, ◌<◌, ℕ, length, get_or, arith, rules, subst, sym, ap, ◌∙◌}
-use Rattle.std.specs.List.{All}
+use Rattle.std.proofs.Common.{◌≡◌, rules, ap, ◌∙◌}
 use Rattle.ps_frame.specs.Zip.{below}
 use Rattle.ps_keys.proofs.KeptRows.{all-below}
 use Rattle.ps_groups.proofs.distinct.all_places.Goals as goal

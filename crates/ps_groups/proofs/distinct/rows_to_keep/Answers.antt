@@ -1,7 +1,6 @@
-use Rattle.std.proofs.Common.{◌≡◌, ◌<◌, ◌≤◌, ℕ, length, get_or, map, arith, rules, subst, sym, ap, ◌∙◌}
+use Rattle.std.proofs.Common.{◌≡◌, ◌<◌, length, map, arith, subst, sym, ap, ◌∙◌}
 use Rattle.std.specs.List.{All}
 use Rattle.std.proofs.lemmas.Result.{IfOk-weaker}
-use Rattle.ps_frame.specs.Aggregates.{max_rows}
 use Rattle.ps_frame.specs.Frames.{AllOfHeight, column_values}
 use Rattle.ps_frame.specs.Gathered.{rows_at}
 use Rattle.ps_frame.specs.Tables.{rows_of, values_at}

@@ -1,5 +1,5 @@
-use Rattle.std.proofs.Common.{Vec, Global, List, ℕ, get_or, ◌≡◌, ◌∙◌, sym, ap, arith}
-use Rattle.std.specs.Prelude.{not, ◌==◌}
+use Rattle.std.proofs.Common.{Vec, Global, List, ℕ, get_or, ◌∙◌, sym, ap, arith}
+use Rattle.std.specs.Prelude.{not}
 use Rattle.std.proofs.lemmas.Bool.{eq-eqb, ne_eqb}
 use Rattle.std.proofs.lemmas.Grind.{get_or_default_zero}
 use Rattle.ps_keys.proofs.KeptRows.{kept-yes, kept-no}

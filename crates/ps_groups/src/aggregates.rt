@@ -1,0 +1,135 @@
+// The columns of aggregates: a value for each group.
+ghost use Rattle.std.specs.Prelude.{◌≡◌, ◌<◌, ◌≤◌, ℕ, IfErr, IfOk, IsSome, Some, get_or, length, map};
+ghost use Rattle.std.specs.List.{All, AllByRecursion, AllZip};
+ghost use Rattle.ps_frame.specs.Frames.{HasKinds, kinds_of};
+ghost use Rattle.ps_frame.specs.Lawful.{FitsFrame};
+ghost use Rattle.ps_frame.specs.Tables.{Frame};
+ghost use Rattle.ps_frame.specs.Trees.{IsComplete, IsExpression, tree_at};
+ghost use Rattle.ps_frame.specs.Typing.{kind_over};
+ghost use Rattle.ps_frame.specs.declared.value.Value.TheVariants as val;
+ghost use Rattle.ps_groups.specs.Errors.{IsErrorAt};
+ghost use Rattle.ps_groups.specs.Grouped.{GivesFirst, IsAggregate, IsFaultOfAny, IsFaultOver, IsValueOf, last_fields};
+ghost use Rattle.ps_plan.specs.Steps.{key_trees};
+
+use crate::tables::GroupTables;
+use ps_eval::evaluate::part_of;
+use ps_eval::part::{Part, copy_of};
+use ps_frame::column::Column;
+use ps_frame::expr::AExpr;
+use ps_frame::frame::DataFrame;
+use ps_frame::refusal::PolarsResult;
+use ps_frame::schema::Schema;
+use ps_frame::value::{DataFault, DataType, Value};
+use ps_plan::ir::ExprIR;
+use ps_tables::framed::column_of_values;
+use ps_zip::faults::fault_at;
+use pu_index::{Arena, Node};
+use std::alloc::{AllocError, Global};
+
+/// The columns of aggregates over the tables of groups, whose fields are the last ones of a schema.
+///
+/// Fails by a fault that one of them has over a group, or for want of memory.
+pub(crate) fn aggregate_columns(
+    alloc: Global,
+    at: Node,
+    aggs: &[ExprIR],
+    arena: &Arena<AExpr>,
+    tables: &GroupTables,
+    schema: &Schema,
+) -> PolarsResult<Vec<Column>>
+    requires complete { AllByRecursion IsComplete (key_trees (tree_at arena.now) aggs.now) }
+    requires kinds { All (λ f. map (kind_over f.schema) (key_trees (tree_at arena.now) aggs.now) ≡ map Some (kinds_of (last_fields (length aggs.now) schema.now))) tables.now }
+    requires count { length aggs.now ≤ length schema.now }
+    requires fit { All FitsFrame tables.now }
+    ensures kinds { IfOk result (λ columns. HasKinds (last_fields (length aggs.now) schema.now) columns.items) }
+    ensures columns { IfOk result (λ columns. AllZip (IsAggregate at.0 tables.now) (key_trees (tree_at arena.now) aggs.now) columns.items) }
+    ensures fault { IfErr result (IsErrorAt at.0 (IsFaultOfAny at.0 tables.now (key_trees (tree_at arena.now) aggs.now))) }
+{
+    let from = schema.len() - aggs.len();
+    let mut columns = Vec::with_capacity(alloc, aggs.len())?;
+    for (i, agg) in aggs.iter().enumerate() {
+        let dtype = schema.kind(from + i);
+        match aggregate_column(alloc, at, agg.node, arena, tables, dtype) {
+            Ok(column) => columns.push(column)?,
+            Err(error) => return Err(error),
+        }
+    }
+    Ok(columns)
+}
+
+// The column of an aggregate: its value over the table of each group.
+fn aggregate_column(
+    alloc: Global,
+    at: Node,
+    expr: Node,
+    arena: &Arena<AExpr>,
+    tables: &GroupTables,
+    dtype: DataType,
+) -> PolarsResult<Column>
+    requires expression { IsExpression arena.now expr }
+    requires kinds { All (λ f. kind_over f.schema (tree_at arena.now expr) ≡ Some dtype) tables.now }
+    requires fit { All FitsFrame tables.now }
+    ensures kind { IfOk result (λ c. c.kind ≡ dtype) }
+    ensures column { IfOk result (IsAggregate at.0 tables.now (tree_at arena.now expr)) }
+    ensures error { IfErr result (IsErrorAt at.0 (IsFaultOver at.0 tables.now (tree_at arena.now expr))) }
+{
+    let mut values = Vec::with_capacity(alloc, tables.len())?;
+    for group in 0..tables.len() {
+        match value_over(alloc, expr, arena, tables, group)? {
+            Ok(value) => values.push(value)?,
+            Err(fault) => return Err(fault_at(at, fault)),
+        }
+    }
+    column_of_values(alloc, dtype, values)
+}
+
+// The value of an aggregate over the table of a group, or a fault.
+fn value_over(
+    alloc: Global,
+    expr: Node,
+    arena: &Arena<AExpr>,
+    tables: &GroupTables,
+    group: usize,
+) -> Result<Result<Value, DataFault>, AllocError>
+    requires expression { IsExpression arena.now expr }
+    requires within { group < length tables.now }
+    requires kinds { All (λ f. IsSome (kind_over f.schema (tree_at arena.now expr))) tables.now }
+    ensures { IfOk result (λ outcome. (at : ℕ) (f : Frame) → IsValueOf at (get_or tables.now group f) (tree_at arena.now expr) outcome) }
+{
+    let table = tables.table(alloc, group)?;
+    value_of(alloc, expr, arena, &table)
+}
+
+// The value of an expression over a table, or a fault.
+fn value_of(
+    alloc: Global,
+    expr: Node,
+    arena: &Arena<AExpr>,
+    df: &DataFrame,
+) -> Result<Result<Value, DataFault>, AllocError>
+    requires expression { IsExpression arena.now expr }
+    requires kind { IsSome (kind_over df.now.schema (tree_at arena.now expr)) }
+    ensures { IfOk result (λ outcome. (at : ℕ) → IsValueOf at df.now (tree_at arena.now expr) outcome) }
+{
+    let part = part_of(alloc, expr, arena, df)?;
+    first_value(alloc, part)
+}
+
+// The first value of a column, and null where there is none; or one of its faults.
+fn first_value(alloc: Global, part: Part) -> Result<Result<Value, DataFault>, AllocError>
+    ensures { IfOk result (GivesFirst part) }
+{
+    match part.settled(alloc)? {
+        Ok(values) => Ok(Ok(first_of(alloc, values.as_slice())?)),
+        Err(fault) => Ok(Err(fault)),
+    }
+}
+
+fn first_of(alloc: Global, values: &[Value]) -> Result<Value, AllocError>
+    ensures { IfOk result (λ value. value ≡ get_or values.now 0 val.Null) }
+{
+    match values.first() {
+        Some(value) => copy_of(alloc, value),
+        None => Ok(Value::Null),
+    }
+}

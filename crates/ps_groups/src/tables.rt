@@ -1,0 +1,119 @@
+// The tables of groups.
+ghost use Rattle.std.specs.Prelude.{◌≡◌, ◌<◌, ◌≤◌, Some, IfOk, IsTrue, length, map, take, drop, slice_get};
+ghost use Rattle.std.specs.List.{All, AllByRecursion, concat};
+ghost use Rattle.ps_frame.specs.Aggregates.{max_rows};
+ghost use Rattle.ps_frame.specs.Lawful.{FitsFrame};
+ghost use Rattle.ps_frame.specs.Typed.{all_fit};
+ghost use Rattle.ps_groups.specs.Tables.{table_at};
+ghost use Rattle.ps_keys.specs.KeyRows.{AreBelow, places_of_each};
+
+use crate::distinct::gathered;
+use ps_frame::column::Column;
+use ps_frame::frame::DataFrame;
+use ps_keys::key_rows::{RowsByKey, rows_by_key};
+use ps_keys::numbering::Numbering;
+use std::alloc::{AllocError, Global};
+use std::marker::Model;
+
+/// The tables of groups, which are parts of one table where the rows of each group lie one after another.
+///
+/// Contracts see the list of the tables.
+#[derive(Drop)]
+pub(crate) struct GroupTables {
+    gathered: DataFrame,
+    groups: RowsByKey,
+}
+
+impl Model for GroupTables {
+    ghost use Rattle.std.specs.Prelude.{List};
+    ghost use Rattle.ps_frame.specs.Tables.{Frame};
+    ghost use Rattle.ps_groups.specs.Tables.{parts_in};
+
+    ghost Value = { List Frame };
+
+    ghost view = { λ a. parts_in a.gathered a.groups };
+}
+
+impl GroupTables {
+    /// The tables of groups of a table's rows.
+    ///
+    /// Fails only for want of memory.
+    pub(crate) fn new(
+        alloc: Global,
+        df: &DataFrame,
+        groups: RowsByKey,
+    ) -> Result<GroupTables, AllocError>
+        requires there { All (λ i. i < length df.now.rows) (concat groups) }
+        requires few { length (concat groups) ≤ max_rows }
+        ensures { IfOk result (λ tables. tables ≡ map (table_at df.now) groups) }
+    {
+        let gathered = gathered(alloc, df, groups.all())?;
+        Ok(GroupTables { gathered, groups })
+    }
+
+    /// How many groups there are.
+    pub(crate) fn len(&self) -> usize
+        ensures { result ≡ length self.now }
+    {
+        self.groups.len()
+    }
+
+    /// The table of a group; its values are not copied.
+    ///
+    /// Fails only for want of memory.
+    pub(crate) fn table(&self, alloc: Global, group: usize) -> Result<DataFrame, AllocError>
+        requires { group < length self.now }
+        ensures { IfOk result (λ f. slice_get self.now group ≡ Some f) }
+    {
+        part(
+            alloc,
+            &self.gathered,
+            self.groups.start(group),
+            self.groups.rows(group).len(),
+        )
+    }
+}
+
+// The rows of a table from one on, as many as asked.
+fn part(alloc: Global, df: &DataFrame, start: usize, count: usize) -> Result<DataFrame, AllocError>
+    ensures { IfOk result (λ f. f ≡ record { schema = df.now.schema; rows = take count (drop start df.now.rows) }) }
+{
+    match df.slice(alloc, start, count) {
+        Ok(part) => Ok(part),
+        Err(_) => Err(AllocError),
+    }
+}
+
+/// The tables of the rows of a table that have the same key, where the keys are numbered.
+///
+/// Fails only for want of memory.
+pub(crate) fn tables_by_key(
+    alloc: Global,
+    df: &DataFrame,
+    numbering: &Numbering,
+) -> Result<GroupTables, AllocError>
+    requires below { AreBelow (length numbering.now.firsts.items) numbering.now.keys.items }
+    requires long { length numbering.now.keys.items ≡ length df.now.rows }
+    ensures tables { IfOk result (λ tables. tables ≡ map (table_at df.now) (places_of_each (length numbering.now.firsts.items) numbering.now.keys.items)) }
+    ensures fit { IfOk result (All FitsFrame) }
+{
+    table_fits(df);
+    let _height = df.height();
+    let groups = rows_by_key(alloc, numbering.keys.as_slice(), numbering.firsts.len())?;
+    GroupTables::new(alloc, df, groups)
+}
+
+// Each row of a table has a value for each field: a law for proofs, which goes once over the columns.
+fn table_fits(df: &DataFrame)
+    ensures { FitsFrame df.now }
+{
+    columns_fit(df.get_columns());
+}
+
+fn columns_fit(columns: &[Column])
+    ensures { AllByRecursion (λ c. IsTrue (all_fit c.kind c.values)) columns.now }
+{
+    for column in columns {
+        column.values_fit();
+    }
+}
