@@ -1,2 +1,3 @@
 -- Definitions that the contracts of src/ cite.
+pub mod Told
 pub mod Words

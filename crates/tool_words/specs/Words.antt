@@ -1,7 +1,7 @@
 -- The words of the program, and the commands that they are.
 use Rattle.std.specs.Prelude.{◌≡◌, ◌≢◌, ℕ, Bool, ◌≤◌, ◌<◌, ◌^◌, ◌⊎◌, ◌↔◌, List, [], ◌∷◌, IsTrue, String, string_bytes, codes, length, map, All, AllPairs, Contains}
-use Rattle.std.specs.List.{flat_map}
-use Rattle.std.specs.Str.{all_ascii_digits}
+use Rattle.std.specs.Char.{is_ascii_digit}
+use Rattle.std.specs.List.{flat_map, list_all}
 use Rattle.std.specs.Str.Parse.{digits_value}
 use Rattle.std.specs.declared.alloc.Global.{Global}
 use Rattle.ps_nodes.specs.declared.options.Options.{Options}
@@ -33,7 +33,7 @@ words_of Serial = codes "--serial" ∷ []
 
 -- a numeral is 1 to 20 decimal digits, and this is its number
 abbrev pub IsNumeral : List ℕ → Type 0
-IsNumeral word = IsTrue (all_ascii_digits word) × ((1 ≤ length word) × (length word ≤ 20))
+IsNumeral word = IsTrue (list_all is_ascii_digit word) × ((1 ≤ length word) × (length word ≤ 20))
 
 abbrev pub number_of : List ℕ → ℕ
 number_of numeral = digits_value 10 numeral

@@ -1,6 +1,7 @@
 //! The commands of the program.
-ghost use Rattle.std.specs.Prelude.{IfSome, IfNone};
-ghost use Rattle.tool_words.specs.Words.{IsCommand, AreWords};
+ghost use Rattle.std.specs.Prelude.{◌≡◌, ◌∷◌, List, String, IfSome, IfNone, codes, map, string_bytes};
+ghost use Rattle.std.specs.declared.alloc.Global.{Global};
+ghost use Rattle.tool_words.specs.Words.{AreWords, IsCommand, IsRun};
 
 use crate::settings::{Told, read_settings};
 use ps_nodes::options::Options;
@@ -40,7 +41,10 @@ pub fn command_of(words: &[String]) -> Option<Command>
 }
 
 /// The command `run` with the settings that the words are.
-fn run_of(words: &[String]) -> Option<Command> {
+fn run_of(words: &[String]) -> Option<Command>
+    ensures some { (all : List (String Global)) → map string_bytes all ≡ codes "run" ∷ map string_bytes words.now → IfSome result (λ c. IsCommand all c) }
+    ensures none { (all : List (String Global)) → map string_bytes all ≡ codes "run" ∷ map string_bytes words.now → IfNone result (¬ IsRun all) }
+{
     let told = read_settings(words, Told::default())?;
     let options = Options::new(
         told.workers.unwrap_or(4) as usize,

@@ -1,4 +1,10 @@
 //! What the words of a run set.
+ghost use Rattle.std.specs.Prelude.{◌≡◌, ◌≢◌, ◌≤◌, ◌↔◌, ◌^◌, ◌++◌, ℕ, List, Some, None, IsTrue, IsSome, IfSome, IfNone, map, string_bytes};
+ghost use Rattle.std.specs.Char.{is_ascii_digit};
+ghost use Rattle.std.specs.List.{flat_map, list_all};
+ghost use Rattle.tool_words.specs.Told.{IsTold, IsToldAlso, MayStand, told_at};
+ghost use Rattle.tool_words.specs.Words.{IsAllowed, IsInRange, IsNumeral, Number, Setting, flag_of_kind, number_of, words_of};
+ghost use Rattle.tool_words.specs.declared.settings.Kind.{Kind};
 
 /// The kinds of settings that have a number.
 #[derive(Clone, Copy, Debug, PartialEq, Eq)]
@@ -19,9 +25,27 @@ pub struct Told {
     pub serial: bool,
 }
 
+impl Kind {
+    /// Whether a setting of this kind may have the number.
+    fn may_have(self, number: u64) -> bool
+        ensures { IsTrue result ↔ IsInRange self number }
+    {
+        match self {
+            Kind::Workers => (1..=256).contains(&number),
+            Kind::Rows => (1..=1 << 20).contains(&number),
+            Kind::Partitions => (1..=1024).contains(&number),
+            Kind::Seed => true,
+        }
+    }
+}
+
 impl Told {
     /// Also this number; none where one of its kind is set.
-    fn with_number(self, kind: Kind, number: u64) -> Option<Told> {
+    fn with_number(self, kind: Kind, number: u64) -> Option<Told>
+        ensures some { IfSome result (λ after. IsToldAlso self kind number after) }
+        ensures new { IfSome result (λ _. told_at self kind ≡ None) }
+        ensures none { IfNone result (IsSome (told_at self kind)) }
+    {
         match kind {
             Kind::Workers if self.workers.is_none() => Some(Told {
                 workers: Some(number),
@@ -44,7 +68,11 @@ impl Told {
     }
 
     /// Also that the run is serial; none where that is set.
-    fn with_serial(self) -> Option<Told> {
+    fn with_serial(self) -> Option<Told>
+        ensures some { IfSome result (λ after. IsTrue after.serial × ((kind : Kind) → told_at after kind ≡ told_at self kind)) }
+        ensures new { IfSome result (λ _. ¬ IsTrue self.serial) }
+        ensures none { IfNone result (IsTrue self.serial) }
+    {
         if self.serial {
             None
         } else {
@@ -57,7 +85,10 @@ impl Told {
 }
 
 /// What the words set, beside what is told; none where they are no settings, or set one a second time.
-pub fn read_settings(words: &[String], told: Told) -> Option<Told> {
+pub fn read_settings(words: &[String], told: Told) -> Option<Told>
+    ensures some { (seen : List Setting) → IsTold told seen → IfSome result (λ after. (more : List Setting) × (map string_bytes words.now ≡ flat_map words_of more) × IsTold after (seen ++ more)) }
+    ensures none { (seen : List Setting) → IsTold told seen → IfNone result ((more : List Setting) → map string_bytes words.now ≡ flat_map words_of more → ¬ MayStand (seen ++ more)) }
+{
     let Some((flag, rest)) = words.split_first() else {
         return Some(told);
     };
@@ -66,12 +97,15 @@ pub fn read_settings(words: &[String], told: Told) -> Option<Told> {
     }
     let kind = kind_of(flag.as_str())?;
     let (numeral, rest) = rest.split_first()?;
-    let number = number_of(kind, numeral.as_str())?;
+    let number = read_number(kind, numeral.as_str())?;
     read_settings(rest, told.with_number(kind, number)?)
 }
 
 /// The kind that a flag names.
-fn kind_of(flag: &str) -> Option<Kind> {
+fn kind_of(flag: &str) -> Option<Kind>
+    ensures some { IfSome result (λ kind. flag.now ≡ flag_of_kind kind) }
+    ensures none { IfNone result ((kind : Kind) → flag.now ≢ flag_of_kind kind) }
+{
     match flag {
         "--workers" => Some(Kind::Workers),
         "--rows" => Some(Kind::Rows),
@@ -82,16 +116,38 @@ fn kind_of(flag: &str) -> Option<Kind> {
 }
 
 /// The number that a word writes, where one of that kind may have it.
-fn number_of(kind: Kind, word: &str) -> Option<u64> {
-    if word.len() > 20 || !word.bytes().all(|byte| byte.is_ascii_digit()) {
-        return None;
+fn read_number(kind: Kind, word: &str) -> Option<u64>
+    ensures some { IfSome result (λ n. IsAllowed (Number kind word.now) × (n ≡ number_of word.now)) }
+    ensures none { IfNone result (¬ IsAllowed (Number kind word.now)) }
+{
+    let number = read_numeral(word)?;
+    if kind.may_have(number) {
+        Some(number)
+    } else {
+        None
     }
-    let number = word.parse::<u64>().ok()?;
-    let is_in_range = match kind {
-        Kind::Workers => (1..=256).contains(&number),
-        Kind::Rows => (1..=1 << 20).contains(&number),
-        Kind::Partitions => (1..=1024).contains(&number),
-        Kind::Seed => true,
-    };
-    is_in_range.then_some(number)
+}
+
+/// The number that a word of 1 to 20 digits writes, where it has 64 bits at most.
+fn read_numeral(word: &str) -> Option<u64>
+    ensures some { IfSome result (λ n. IsNumeral word.now × (n ≡ number_of word.now)) }
+    ensures none { IfNone result (IsNumeral word.now → 2 ^ 64 ≤ number_of word.now) }
+{
+    if is_numeral(word) {
+        word.parse::<u64>().ok()
+    } else {
+        None
+    }
+}
+
+fn is_numeral(word: &str) -> bool
+    ensures { IsTrue result ↔ IsNumeral word.now }
+{
+    !word.is_empty() && word.len() <= 20 && has_digits_alone(word)
+}
+
+fn has_digits_alone(word: &str) -> bool
+    ensures { result ≡ list_all is_ascii_digit word.now }
+{
+    word.bytes().all(|byte| byte.is_ascii_digit())
 }
