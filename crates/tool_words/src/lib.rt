@@ -3,3 +3,5 @@
 
 pub mod command;
 mod settings;
+#[cfg(test)]
+mod tests;

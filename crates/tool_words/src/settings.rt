@@ -140,12 +140,14 @@ fn read_numeral(word: &str) -> Option<u64>
     }
 }
 
+/// Whether a word has 1 to 20 characters, all of them digits.
 fn is_numeral(word: &str) -> bool
     ensures { IsTrue result ↔ IsNumeral word.now }
 {
     !word.is_empty() && word.len() <= 20 && has_digits_alone(word)
 }
 
+/// Whether no character of a word is anything but a digit.
 fn has_digits_alone(word: &str) -> bool
     ensures { result ≡ list_all is_ascii_digit word.now }
 {
