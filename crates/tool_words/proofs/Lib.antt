@@ -1,0 +1,4 @@
+mod Giving
+mod Numerals
+mod OneMore
+mod Reading

@@ -1,0 +1,7 @@
+//! The words of the program: which command they are.
+#![tactic(auto)]
+
+pub mod command;
+mod settings;
+#[cfg(test)]
+mod tests;
