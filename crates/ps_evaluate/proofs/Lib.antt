@@ -9,3 +9,4 @@ pub mod Copied
 pub mod NamedCopies
 pub mod FieldSteps
 pub mod OwnedSteps
+pub mod Tested

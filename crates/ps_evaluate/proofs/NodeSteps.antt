@@ -22,10 +22,10 @@ use Rattle.ps_evaluate.specs.Ready.{IsReadyFor, frame_schemas}
 use Rattle.ps_evaluate.proofs.OverInputs.{Answer}
 
 -- what holds of the entry that stands there
-of-entry : {A : Type 0} (P : A → Type 0) (o : Option A) (x : A) → o ≡ Some x → IfSome o P → P x
+pub of-entry : {A : Type 0} (P : A → Type 0) (o : Option A) (x : A) → o ≡ Some x → IfSome o P → P x
 of-entry P o x is h = let there : IfSome (Some x) P = subst (λ q. IfSome q P) is h in there
 
-at-entry : {A : Type 0} (P : A → Type 0) (o : Option A) (x : A) → o ≡ Some x → P x → IfSome o P
+pub at-entry : {A : Type 0} (P : A → Type 0) (o : Option A) (x : A) → o ≡ Some x → P x → IfSome o P
 at-entry P o x is h = subst (λ q. IfSome q P) (sym is) h
 
 -- as many tables as schemas, and as nodes that have these

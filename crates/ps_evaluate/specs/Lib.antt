@@ -2,3 +2,4 @@ pub mod Copies
 pub mod Nodes
 pub mod Owned
 pub mod Ready
+pub mod Tested

@@ -12,3 +12,5 @@ pub mod node;
 pub mod owned;
 mod rows;
 mod tables;
+#[cfg(test)]
+mod tests;
