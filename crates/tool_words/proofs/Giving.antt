@@ -55,7 +55,7 @@ module _ (told : Told) (settings : List Setting) (h : IsTold told settings) wher
       let d = in-range settings Partitions 16 p allowed (omega arith, omega arith) (set-or-default settings Partitions 16 p told.partitions (h.numbers Partitions) ep) in
       omega arith
 
-same-rest : (all rest more : List (List ℕ)) → all ≡ codes "run" ∷ rest → all ≡ codes "run" ∷ more → rest ≡ more
+pub same-rest : (all rest more : List (List ℕ)) → all ≡ codes "run" ∷ rest → all ≡ codes "run" ∷ more → rest ≡ more
 same-rest all rest more e f = cc
 
 pub not-run : (all words : List (String Global)) → map string_bytes all ≡ codes "run" ∷ map string_bytes words

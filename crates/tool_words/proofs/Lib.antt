@@ -1,4 +1,5 @@
 mod Giving
 mod Numerals
+mod OneCommand
 mod OneMore
 mod Reading

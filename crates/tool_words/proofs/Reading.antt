@@ -42,7 +42,7 @@ pub spelled-number : (words rest more : List (String Global)) (flag numeral : St
 spelled-number words rest more flag numeral kind bytes text e f b is t =
     spelled-flag words rest flag bytes e b ∙ ap (λ (x : List ℕ). x ∷ map string_bytes rest) is ∙ ap (λ (xs : List (List ℕ)). flag_of_kind kind ∷ xs) (spelled-flag rest more numeral text f t)
 
-begins : (s : Setting) (rest : List (List ℕ)) (more : List Setting) → words_of s ++ rest ≡ flat_map words_of more → (after : List Setting) × (more ≡ s ∷ after) × (rest ≡ flat_map words_of after)
+pub begins : (s : Setting) (rest : List (List ℕ)) (more : List Setting) → words_of s ++ rest ≡ flat_map words_of more → (after : List Setting) × (more ≡ s ∷ after) × (rest ≡ flat_map words_of after)
 begins Serial rest more e = begins-serial rest more e
 begins (Number kind numeral) rest more e =
     let (other, after, is, left) = begins-number kind (numeral ∷ rest) more e in

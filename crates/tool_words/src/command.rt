@@ -1,6 +1,8 @@
 //! The commands of the program.
-ghost use Rattle.std.specs.Prelude.{◌≡◌, ◌∷◌, List, String, IfSome, IfNone, codes, map, string_bytes};
+ghost use Rattle.std.specs.Prelude.{◌≡◌, ◌∷◌, Bool, List, String, Some, IfSome, IfNone, codes, map, string_bytes};
 ghost use Rattle.std.specs.declared.alloc.Global.{Global};
+ghost use Rattle.ps_nodes.specs.declared.options.Options.{Options};
+ghost use Rattle.tool_words.specs.declared.command.Command.{Command};
 ghost use Rattle.tool_words.specs.Words.{AreWords, IsCommand, IsRun};
 
 use crate::settings::{Told, read_settings};
@@ -27,8 +29,11 @@ pub enum Command {
 /// A command is `run` and then any of `--workers N`, `--rows N`, `--partitions N`, `--seed N` and `--serial`, each at most
 /// once and in any order, or `--help` alone, or `--version` alone. N is a word of 1 to 20 decimal digits whose number is 1 to
 /// 256, 1 to 2^20, 1 to 1024, and one of 64 bits. Where they are not set, they are 4, 100000, 16 and 0.
+#[tactic(auto, using(crate::proofs::OneCommand::only_from, crate::proofs::OneCommand::run_from))]
 pub fn command_of(words: &[String]) -> Option<Command>
     ensures some { IfSome result (λ c. IsCommand words.now c) }
+    ensures only { (c : Command) → IsCommand words.now c → result ≡ Some c }
+    ensures run { IsRun words.now → (options : Options) × (serial : Bool) × (result ≡ Some (Command.Run options serial)) }
     ensures none { IfNone result (¬ AreWords words.now) }
 {
     let (command, rest) = words.split_first()?;

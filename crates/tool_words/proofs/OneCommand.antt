@@ -1,0 +1,95 @@
+-- Words are one command at most.
+use Rattle.std.proofs.Common.{◌≡◌, ◌≢◌, ◌⊎◌, ◌↔◌, inl, inr, ℕ, ◌<◌, List, [], ◌∷◌, length, get_or, refl, sym, ◌∙◌, ap, subst, arith, Global, String}
+use Rattle.std.specs.Prelude.{Bool, true, false, Option, Some, None, IsTrue, IfSome, IfNone, AllPairs, Contains, codes, map, string_bytes}
+use Rattle.std.specs.List.{flat_map}
+use Rattle.ps_nodes.specs.declared.options.Options.{Options}
+use Rattle.std.proofs.lemmas.Bool.{cases_order}
+use Rattle.std.proofs.lemmas.List.{get_or_default}
+use Rattle.tool_words.proofs.Giving.{same-rest}
+use Rattle.tool_words.proofs.OneMore.{none-left}
+use Rattle.tool_words.proofs.Reading.{begins}
+use Rattle.tool_words.specs.Words.{AreWords, Give, IsCommand, IsHelp, IsRun, IsSetOrDefault, IsVersion, Number, Serial, Setting, flag_of, number_of, words_of}
+use Rattle.tool_words.specs.declared.command.Command.{Command}
+use Rattle.tool_words.specs.declared.command.Command.TheVariants.{Run, Help, Version}
+use Rattle.tool_words.specs.declared.settings.Kind.{Kind}
+use Rattle.tool_words.specs.declared.settings.Kind.TheVariants.{Workers, Rows, Partitions, Seed}
+
+-- words are those of one list of settings
+same-settings : (s t : List Setting) → flat_map words_of s ≡ flat_map words_of t → s ≡ t
+same-settings [] t e = sym (none-left t e)
+same-settings (a ∷ s) t e =
+    let (after, is, left) = begins a (flat_map words_of s) t e in
+    ap (λ (x : List Setting). a ∷ x) (same-settings s after left) ∙ sym is
+
+module _ (settings : List Setting) (differ : AllPairs (λ s t. flag_of s ≢ flag_of t) settings) where
+  one-of-a-flag : (s t : Setting) → flag_of s ≡ flag_of t → Contains settings s → Contains settings t → s ≡ t
+  one-of-a-flag s t same (i, i-in, at-i) (j, j-in, at-j) = by (cases_order i j)
+    where
+      by : (i ≡ j) ⊎ ((i < j) ⊎ (j < i)) → s ≡ t
+      by (inr (inl before)) = absurd (differ i j s before j-in (ap flag_of at-i ∙ same ∙ sym (ap flag_of (get_or_default settings j s t j-in ∙ at-j))))
+      by (inl e) = sym at-i ∙ get_or_default settings i s t i-in ∙ ap (λ k. get_or settings k t) e ∙ at-j
+      by (inr (inr after)) = absurd (differ j i t after i-in (ap flag_of at-j ∙ sym same ∙ sym (ap flag_of (get_or_default settings i t s i-in ∙ at-i))))
+
+  one-number : (kind : Kind) (default m n : ℕ) → IsSetOrDefault settings kind default m → IsSetOrDefault settings kind default n → m ≡ n
+  one-number kind default m n (inl (x, there, is)) (inl (y, here, e)) =
+      let f : Number kind x ≡ Number kind y = one-of-a-flag (Number kind x) (Number kind y) refl there here in
+      let same : x ≡ y = cc in
+      is ∙ ap number_of same ∙ sym e
+  one-number kind default m n (inl (x, there, is)) (inr (none, e)) = absurd (none x there)
+  one-number kind default m n (inr (none, is)) (inl (y, here, e)) = absurd (none y here)
+  one-number kind default m n (inr (none, is)) (inr (none', e)) = is ∙ sym e
+
+  one-choice : (a b : Bool) → (IsTrue a ↔ Contains settings Serial) → (IsTrue b ↔ Contains settings Serial) → a ≡ b
+  one-choice true true f g = refl
+  one-choice false false f g = refl
+  one-choice true false f g = sym (g.1 (f.0 refl))
+  one-choice false true f g = f.1 (g.0 refl)
+
+  one-run : (o p : Options) (a b : Bool) → Give settings o a → Give settings p b → Run o a ≡ Run p b
+  one-run o p a b f g =
+      let w = one-number Workers 4 o.workers p.workers f.workers g.workers in
+      let r = one-number Rows 100000 o.morsel_rows p.morsel_rows f.rows g.rows in
+      let q = one-number Partitions 16 o.partitions p.partitions f.partitions g.partitions in
+      let s = one-number Seed 0 o.seed p.seed f.seed g.seed in
+      let c = one-choice a b f.serial_is g.serial_is in
+      λ i. Run (record { workers = w i; morsel_rows = r i; partitions = q i; seed = s i }) (c i)
+
+pub not-help : (words : List (String Global)) → IsRun words → ¬ IsHelp words
+not-help words (settings, run) h = let f : codes "run" ∷ flat_map words_of settings ≡ codes "--help" ∷ [] = sym run.words_are ∙ h in cc
+
+pub not-version : (words : List (String Global)) → IsRun words → ¬ IsVersion words
+not-version words (settings, run) v = let f : codes "run" ∷ flat_map words_of settings ≡ codes "--version" ∷ [] = sym run.words_are ∙ v in cc
+
+pub help-not-version : (words : List (String Global)) → IsHelp words → ¬ IsVersion words
+help-not-version words h v = let f : codes "--help" ∷ [] ≡ codes "--version" ∷ [] = sym h ∙ v in
+    let g : codes "--help" ≡ codes "--version" = cc in
+    let l : 6 ≡ 9 = ap length g in omega (arith, l)
+
+pub one-command : (words : List (String Global)) (c d : Command) → IsCommand words c → IsCommand words d → c ≡ d
+one-command words Help Help h g = refl
+one-command words Version Version h g = refl
+one-command words (Run o a) (Run p b) (s, f, give) (t, g, gives) =
+    let same : s ≡ t = same-settings s t (same-rest (map string_bytes words) (flat_map words_of s) (flat_map words_of t) f.words_are g.words_are) in
+    one-run s f.differ o p a b give (subst (λ (x : List Setting). Give x p b) (sym same) gives)
+one-command words (Run o a) Help (s, f, give) g = absurd (not-help words (s, f) g)
+one-command words (Run o a) Version (s, f, give) g = absurd (not-version words (s, f) g)
+one-command words Help (Run o a) g (s, f, give) = absurd (not-help words (s, f) g)
+one-command words Version (Run o a) g (s, f, give) = absurd (not-version words (s, f) g)
+one-command words Help Version h g = absurd (help-not-version words h g)
+one-command words Version Help h g = absurd (help-not-version words g h)
+
+-- an answer that is a command of the words, and is none only where they are none, is the command that they are
+pub only_from : (words : List (String Global)) (r : Option Command) → IfSome r (λ c. IsCommand words c) → IfNone r (¬ AreWords words) → (c : Command) → IsCommand words c → r ≡ Some c
+only_from words None some none c is = absurd (none (a-command c is))
+  where
+    a-command : (c : Command) → IsCommand words c → AreWords words
+    a-command (Run o b) (s, f, give) = inl (s, f)
+    a-command Help h = inr (inl h)
+    a-command Version v = inr (inr v)
+only_from words (Some d) some none c is = ap (λ (x : Command). Some x) (one-command words d c some is)
+
+pub run_from : (words : List (String Global)) (r : Option Command) → IfSome r (λ c. IsCommand words c) → IfNone r (¬ AreWords words) → IsRun words → (options : Options) × (serial : Bool) × (r ≡ Some (Run options serial))
+run_from words None some none run = absurd (none (inl run))
+run_from words (Some (Run o b)) some none run = (o, b, refl)
+run_from words (Some Help) some none run = absurd (not-help words run some)
+run_from words (Some Version) some none run = absurd (not-version words run some)
