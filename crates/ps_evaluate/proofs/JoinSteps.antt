@@ -1,11 +1,10 @@
 -- What a join is ready for.
-use Rattle.std.proofs.Common.{◌≡◌, ◌≢◌, ℕ, suc, ◌⊎◌, List, [], ◌∷◌, ◌++◌, length, refl, sym, subst, ap, ◌∙◌, inl, inr, arith}
-use Rattle.std.specs.Prelude.{Bool, true, false, not, ◌&&◌, ◌||◌, IsTrue, IsSome, Option, Some, None, is_some, map, zip}
+use Rattle.std.proofs.Common.{◌≡◌, ◌≢◌, ℕ, ◌⊎◌, List, [], ◌∷◌, length, refl, sym, subst, ap, ◌∙◌, inl, inr, arith}
+use Rattle.std.specs.Prelude.{true, false, not, ◌||◌, IsTrue, IsSome, Option, Some, None}
 use Rattle.std.specs.List.{AllByRecursion}
 use lib.Dec.{eqb}
 use Rattle.std.proofs.lemmas.Bool.Decides.{eqb_tells}
 use Rattle.std.proofs.lemmas.Option.{same_Some}
-use Rattle.pu_index.specs.declared.arena.Node.{Node}
 use Rattle.ps_frame.proofs.Lists.{both}
 use Rattle.ps_frame.specs.Refusals.{refuses_pair}
 use Rattle.ps_frame.specs.Tables.{Fields, Frame}
@@ -17,13 +16,13 @@ use Rattle.ps_frame.specs.declared.value.DataType.TheVariants as kind
 use Rattle.ps_plan.proofs.Begins.{or-left, or-right}
 use Rattle.ps_plan.proofs.TypedKinds.{all-left, all-right}
 use Rattle.ps_plan.specs.Refusals.{KeysMisfit, break_rules, pairs_differ, schema_mismatch}
-use Rattle.ps_plan.specs.Schemas.{first_schema, join_schema, second_schema}
+use Rattle.ps_plan.specs.Schemas.{join_schema}
 use Rattle.ps_plan.specs.Sound.{have_all_kinds}
 use Rattle.ps_plan.specs.Steps.{JoinStep, join}
 use Rattle.ps_plan.specs.declared.ir.JoinType.{JoinType}
 use Rattle.ps_plan.specs.declared.ir.JoinType.TheVariants as how
 use Rattle.ps_zip.specs.Zips.{AreTypedOver, expr_kinds}
-use Rattle.ps_evaluate.specs.Ready.{IsReady, frame_schemas}
+use Rattle.ps_evaluate.specs.Ready.{IsReady}
 use Rattle.ps_evaluate.proofs.RowSteps.{all-kinds}
 
 -- as many keys on either side

@@ -1,4 +1,12 @@
 pub mod OverInputs
 pub mod TableSteps
 pub mod RowSteps
+pub mod GroupSteps
 pub mod JoinSteps
+pub mod Entries
+pub mod NodeSteps
+pub mod Copied
+pub mod NamedCopies
+pub mod FieldSteps
+pub mod OwnedSteps
+pub mod Tested

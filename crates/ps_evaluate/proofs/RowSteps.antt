@@ -1,24 +1,19 @@
 -- What a step with expressions over one table is ready for.
-use Rattle.std.proofs.Common.{◌≡◌, List, [], ◌∷◌, ◌++◌, refl, sym, subst, ap, ◌∙◌, inl, inr}
-use Rattle.std.specs.Prelude.{Bool, true, false, not, ◌&&◌, ◌||◌, IsTrue, IsSome, Option, Some, None, is_some, option_map}
+use Rattle.std.proofs.Common.{◌≡◌, List, [], ◌∷◌, refl, sym, subst, ap, ◌∙◌, inl}
+use Rattle.std.specs.Prelude.{true, false, ◌&&◌, IsTrue, IsSome, Option, Some, None, is_some, option_map}
 use Rattle.std.specs.List.{AllByRecursion}
-use Rattle.std.specs.Str.{bytes_eq}
 use Rattle.pu_index.specs.declared.arena.Node.{Node}
-use Rattle.ps_frame.proofs.Lists.{and_both, both}
-use Rattle.ps_frame.specs.Frames.{has_name}
+use Rattle.ps_frame.proofs.Lists.{both}
 use Rattle.ps_frame.specs.Refusals.{has_kind_where, is_not}
 use Rattle.ps_frame.specs.Tables.{Fields, Frame}
 use Rattle.ps_frame.specs.Trees.{IsComplete, Tree}
 use Rattle.ps_frame.specs.Typing.{kind_over}
 use Rattle.ps_frame.specs.declared.value.DataType.{DataType}
 use Rattle.ps_frame.specs.declared.value.DataType.TheVariants as kind
-use Rattle.ps_plan.proofs.Begins.{or-left, or-right}
-use Rattle.ps_plan.proofs.StepFits.{same-name}
-use Rattle.ps_plan.specs.Refusals.{column_not_found, duplicate, lacks_name, repeats, schema_mismatch}
-use Rattle.ps_plan.specs.Schemas.{expr_names, fields_of, first_schema, is_among, put_fields}
+use Rattle.ps_plan.specs.Refusals.{duplicate, repeats, schema_mismatch}
+use Rattle.ps_plan.specs.Schemas.{expr_names, fields_of, first_schema, put_fields}
 use Rattle.ps_plan.specs.Sound.{have_all_kinds}
-use Rattle.ps_plan.specs.Steps.{Cut, Name, Named, distinct, distinct_step, exprs_of, filter, group_step, hstack, key_trees, named_trees, select, sort_step}
-use Rattle.ps_plan.specs.declared.ir.DistinctOptions.{DistinctOptions}
+use Rattle.ps_plan.specs.Steps.{Cut, Name, exprs_of, filter, hstack, key_trees, named_trees, select, sort_step}
 use Rattle.ps_plan.specs.declared.ir.ExprIR.{ExprIR}
 use Rattle.ps_plan.specs.declared.ir.SortMultipleOptions.{SortMultipleOptions}
 use Rattle.ps_zip.proofs.Named.{exprs-of-named}

@@ -10,3 +10,11 @@ pub(crate) fn only(inputs: &[DataFrame]) -> &DataFrame
 {
     &inputs[0]
 }
+
+// The tables of a node's left and right input.
+pub(crate) fn both(inputs: &[DataFrame]) -> (&DataFrame, &DataFrame)
+    requires { length inputs.now ≡ 2 }
+    ensures { inputs.now ≡ result.0.now ∷ result.1.now ∷ [] }
+{
+    (&inputs[0], &inputs[1])
+}

@@ -9,3 +9,4 @@ pub mod Standing
 pub mod Steps
 pub mod TableFits
 pub mod WholeZips
+pub mod Tested

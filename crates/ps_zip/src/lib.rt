@@ -3,4 +3,6 @@
 
 pub mod faults;
 pub mod inputs;
+#[cfg(test)]
+mod tests;
 pub mod zips;

@@ -1,0 +1,9 @@
+// Answers queries: a plan is validated, and each node that its root leads to is computed once.
+#![tactic(auto)]
+
+pub mod gate;
+mod inputs;
+pub mod query;
+mod readers;
+mod tables;
+mod walk;
