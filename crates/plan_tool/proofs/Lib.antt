@@ -1,7 +1,4 @@
 pub mod Pieces
-pub mod Json
 pub mod CsvText
-pub mod Filtered
-pub mod Meant
-pub mod Arenas
+pub mod Runs
 pub mod ToolColumns

@@ -1,7 +1,7 @@
 use Rattle.std.proofs.Common.{◌≡◌, ◌≤◌, ◌+◌, ◌-◌, vec_len}
 use Rattle.plan_tool.specs.Outside.{TakesFront}
 use Rattle.plan_tool.specs.declared.reading.TheConstants.{MAX_DOCUMENT_BYTES, PIECE_BYTES}
-use Rattle.plan_tool.proofs.reading.read_document.Given as goal
+use Rattle.plan_tool.proofs.reading.read_source.Given as goal
 
 abbrev pub invariant-pieces : goal.invariant-pieces
 invariant-pieces g l = record {

@@ -2,7 +2,7 @@ use Rattle.std.proofs.Common.{refl, ap, sym, subst, arith, rules, Ok}
 use Rattle.std.proofs.lemmas.Grind.{common_steps}
 use Rattle.plan_tool.specs.Outside.{TakesFront}
 use Rattle.plan_tool.proofs.Pieces.{rose_later, takes_all, takes_longer, takes_more, takes_nothing}
-use Rattle.plan_tool.proofs.reading.read_document.Goals as goal
+use Rattle.plan_tool.proofs.reading.read_source.Goals as goal
 
 pub pieces-init : goal.pieces-init
 pieces-init g c = record {
