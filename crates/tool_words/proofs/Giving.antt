@@ -58,10 +58,9 @@ module _ (told : Told) (settings : List Setting) (h : IsTold told settings) wher
 pub same-rest : (all rest more : List (List ℕ)) → all ≡ codes "run" ∷ rest → all ≡ codes "run" ∷ more → rest ≡ more
 same-rest all rest more e f = cc
 
-pub not-run : (all words : List (String Global)) → map string_bytes all ≡ codes "run" ∷ map string_bytes words
-    → ((more : List Setting) → map string_bytes words ≡ flat_map words_of more → ¬ MayStand more) → ¬ IsRun all
-not-run all words e never (settings, run) =
-    never settings (same-rest (map string_bytes all) (map string_bytes words) (flat_map words_of settings) e run.words_are) (record { allowed = run.allowed; differ = run.differ })
+pub not-run : (all : List (String Global)) (rest : List (List ℕ)) → map string_bytes all ≡ codes "run" ∷ rest → ((more : List Setting) → rest ≡ flat_map words_of more → ¬ MayStand more) → ¬ IsRun all
+not-run all rest e never (settings, run) =
+    never settings (same-rest (map string_bytes all) rest (flat_map words_of settings) e run.words_are) (record { allowed = run.allowed; differ = run.differ })
 
 pub run-with : (all words : List (String Global)) (settings : List Setting) → map string_bytes all ≡ codes "run" ∷ map string_bytes words → map string_bytes words ≡ flat_map words_of settings → MayStand settings → IsRunWith all settings
 run-with all words settings e f m = record { words_are = e ∙ ap (λ rest. codes "run" ∷ rest) f; allowed = m.allowed; differ = m.differ }

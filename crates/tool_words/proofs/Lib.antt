@@ -1,3 +1,4 @@
+mod Examples
 mod Giving
 mod Numerals
 mod OneCommand

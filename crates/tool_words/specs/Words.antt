@@ -70,10 +70,11 @@ pub record IsRunWith (words : List (String Global)) (settings : List Setting) : 
   pub allowed : All IsAllowed settings
   pub differ : AllPairs (λ s t. flag_of s ≢ flag_of t) settings
 
--- the words are the command `run`, `--help` or `--version`
+-- the words are a command `run`
 abbrev pub IsRun : List (String Global) → Type 0
 IsRun words = (settings : List Setting) × IsRunWith words settings
 
+-- the words are `--help` or `--version`, alone
 abbrev pub IsHelp : List (String Global) → Type 0
 IsHelp words = map string_bytes words ≡ codes "--help" ∷ []
 
