@@ -1,3 +1,4 @@
+pub mod Answered
 pub mod Pieces
 pub mod CsvText
 pub mod Runs

@@ -8,8 +8,9 @@ use Rattle.ps_document.specs.Document.{IsDocument, IsJson}
 use Rattle.ps_plan.specs.Meaning.{NodeMayFault, NothingBreaks}
 use Rattle.ps_plan.specs.Plans.{Plan}
 use Rattle.ps_plan.specs.Refusals.{IsValid}
+use Rattle.tool_words.proofs.OneCommand.{not-help, not-version}
 use Rattle.tool_words.specs.Words.{AreWords, IsHelp, IsRun, IsVersion}
-use Rattle.plan_tool.specs.Answers.{IsFaultLine, IsPlanText, IsRefusalLine, IsUnanswered, OfEachPlan, OfPlan, line_of, status_of}
+use Rattle.plan_tool.specs.Answers.{IsFaultLine, IsNoDocumentLine, IsPlanText, IsRefusalLine, IsUnanswered, OfEachPlan, OfPlan, line_of, status_of}
 use Rattle.plan_tool.specs.Outside.{Appends, AppendsFront, IsLonger, Rose, TakesAll}
 use Rattle.plan_tool.specs.Runs.{IsEnd, IsToolText, Outside, Read, Words, help_text, max_document_bytes, version_text}
 use Rattle.plan_tool.specs.declared.outcome.Outcome.{Outcome}
@@ -32,19 +33,6 @@ not-long left bytes is long short = too-many bytes (subst (λ l. IsLonger max_do
 pub nothing-faults : (F : Functions) (plan : Plan) → NothingBreaks F plan → (n : ℕ) (f : DataFault) → NodeMayFault F plan n f → ⊥
 nothing-faults F plan nothing n f (reached, inl broken) = (nothing n reached).0 (record { fault = f; node = n }) broken
 nothing-faults F plan nothing n f (reached, inr (rows, large)) = (nothing n reached).1 large
-
--- the first letter of the first word
-first-letter : List (List ℕ) → ℕ
-first-letter ws = get_or (get_or ws 0 []) 0 0
-
-run-or : (words : Words) (rest other : List (List ℕ)) (w : List ℕ) → map string_bytes words ≡ codes "run" ∷ rest → map string_bytes words ≡ w ∷ other → 114 ≡ get_or w 0 0
-run-or words rest other w a b = ap first-letter (sym a ∙ b)
-
-not-help : (words : Words) → IsRun words → IsHelp words → ⊥
-not-help words run help = let e = run-or words _ [] (codes "--help") run.1.words_are help in omega (arith, e)
-
-not-version : (words : Words) → IsRun words → IsVersion words → ⊥
-not-version words run version = let e = run-or words _ [] (codes "--version") run.1.words_are version in omega (arith, e)
 
 module _ (F : Functions) (words : Words) (s : Outside) where
   are-words : (text : List ℕ) → IsToolText F words s.left text → AreWords words
@@ -105,24 +93,36 @@ module _ (F : Functions) (words : Words) (s : Outside) where
   end-unknown outcome.TooLong e none = absurd (none (inl e.0))
   end-unknown outcome.OutOfMemory e none = absurd (none e.1)
 
-  pub end-no_document : (o : Outcome) → IsEnd F words s o → status_of o ≡ 3 → Read s.left (λ bytes. IsDocument bytes → ⊥)
-  end-no_document outcome.Written e h = absurd (omega (arith, h))
-  end-no_document outcome.Usage e h = absurd (omega (arith, h))
-  end-no_document outcome.BadJson e h = λ bytes is. let r = e.1 bytes is in (r.0, λ d. r.1 (json-of bytes d))
-  end-no_document outcome.BadDocument e h = λ bytes is. let r = e.1 bytes is in (r.0, r.1.1)
-  end-no_document (outcome.Refused line) e h = absurd (omega (arith, h))
-  end-no_document (outcome.Faulted line) e h = absurd (omega (arith, h))
-  end-no_document outcome.ReadFault e h = absurd (omega (arith, h))
-  end-no_document outcome.WriteFault e h = absurd (omega (arith, h))
-  end-no_document outcome.TooLong e h = absurd (omega (arith, h))
-  end-no_document outcome.OutOfMemory e h = absurd (omega (arith, h))
+  pub end-no_document : (o : Outcome) → IsEnd F words s o → (W : List ℕ → Type 0) → W (line_of o) → status_of o ≡ 3 → Read s.left (λ bytes. (line : List ℕ) × IsNoDocumentLine bytes line × W line)
+  end-no_document outcome.Written e W w h = absurd (omega (arith, h))
+  end-no_document outcome.Usage e W w h = absurd (omega (arith, h))
+  end-no_document outcome.BadJson e W w h = λ bytes is. let r = e.1 bytes is in (r.0, (codes "BadJson\n", inl (r.1, refl), w))
+  end-no_document outcome.BadDocument e W w h = λ bytes is. let r = e.1 bytes is in (r.0, (codes "BadDocument\n", inr (r.1.0, r.1.1, refl), w))
+  end-no_document (outcome.Refused line) e W w h = absurd (omega (arith, h))
+  end-no_document (outcome.Faulted line) e W w h = absurd (omega (arith, h))
+  end-no_document outcome.ReadFault e W w h = absurd (omega (arith, h))
+  end-no_document outcome.WriteFault e W w h = absurd (omega (arith, h))
+  end-no_document outcome.TooLong e W w h = absurd (omega (arith, h))
+  end-no_document outcome.OutOfMemory e W w h = absurd (omega (arith, h))
+
+  pub end-of_run : (o : Outcome) → IsEnd F words s o → (status_of o ≡ 0 → ⊥) → (status_of o ≡ 2 → ⊥) → (status_of o ≡ 7 → ⊥) → (status_of o ≡ 9 → ⊥) → IsRun words
+  end-of_run outcome.Written e a b c d = absurd (a refl)
+  end-of_run outcome.Usage e a b c d = absurd (b refl)
+  end-of_run outcome.BadJson e a b c d = e.0
+  end-of_run outcome.BadDocument e a b c d = e.0
+  end-of_run (outcome.Refused line) e a b c d = e.0
+  end-of_run (outcome.Faulted line) e a b c d = e.0
+  end-of_run outcome.ReadFault e a b c d = e.0
+  end-of_run outcome.WriteFault e a b c d = absurd (c refl)
+  end-of_run outcome.TooLong e a b c d = e.0
+  end-of_run outcome.OutOfMemory e a b c d = absurd (d refl)
 
   pub end-refused : (o : Outcome) → IsEnd F words s o → (W : List ℕ → Type 0) → W (line_of o) → status_of o ≡ 4 → Read s.left (λ bytes. (line : List ℕ) × OfPlan bytes (λ plan. IsRefusalLine F plan line) × W line)
   end-refused outcome.Written e W w h = absurd (omega (arith, h))
   end-refused outcome.Usage e W w h = absurd (omega (arith, h))
   end-refused outcome.BadJson e W w h = absurd (omega (arith, h))
   end-refused outcome.BadDocument e W w h = absurd (omega (arith, h))
-  end-refused (outcome.Refused line) e W w h = λ bytes is. let r = e.1 bytes is in (r.0, string_bytes line, r.1, w)
+  end-refused (outcome.Refused line) e W w h = λ bytes is. let r = e.1 bytes is in (r.0, (string_bytes line, r.1, w))
   end-refused (outcome.Faulted line) e W w h = absurd (omega (arith, h))
   end-refused outcome.ReadFault e W w h = absurd (omega (arith, h))
   end-refused outcome.WriteFault e W w h = absurd (omega (arith, h))
@@ -135,7 +135,7 @@ module _ (F : Functions) (words : Words) (s : Outside) where
   end-faulted outcome.BadJson e W w h = absurd (omega (arith, h))
   end-faulted outcome.BadDocument e W w h = absurd (omega (arith, h))
   end-faulted (outcome.Refused line) e W w h = absurd (omega (arith, h))
-  end-faulted (outcome.Faulted line) e W w h = λ bytes is. let r = e.1 bytes is in (r.0, string_bytes line, r.1, w)
+  end-faulted (outcome.Faulted line) e W w h = λ bytes is. let r = e.1 bytes is in (r.0, (string_bytes line, r.1, w))
   end-faulted outcome.ReadFault e W w h = absurd (omega (arith, h))
   end-faulted outcome.WriteFault e W w h = absurd (omega (arith, h))
   end-faulted outcome.TooLong e W w h = absurd (omega (arith, h))
@@ -248,6 +248,13 @@ module _ (F : Functions) (words : Words) (s : Outside) where
   end-complete outcome.WriteFault e bytes is run short d sound reads writes = absurd (writes e.3)
   end-complete outcome.TooLong e bytes is run short d sound reads writes = absurd (not-long s.left bytes is e.1 short)
   end-complete outcome.OutOfMemory e bytes is run short d sound reads writes = inr refl
+
+  -- a text that was written whole, or a front of it
+  pub text-end : (text : List ℕ) → IsToolText F words s.left text → (IsRun words → Read s.left (λ _. s.left_after ≡ Some [])) → (o : Outcome) → (o ≡ outcome.Written) ⊎ (o ≡ outcome.WriteFault) → (o ≡ outcome.Written → Appends s.written text s.written_after)
+      → (o ≡ outcome.WriteFault → AppendsFront s.written text s.written_after) → (o ≡ outcome.WriteFault → Rose s.write_faults s.write_faults_after) → IsEnd F words s o
+  text-end text is read o (inl e) whole front rose = subst (λ o. IsEnd F words s o) (sym e) (text, is, whole e, read)
+  text-end text is read o (inr e) whole front rose = subst (λ o. IsEnd F words s o) (sym e) (text, is, front e, rose e)
+
   -- an outcome of the very bytes that were read
   pub unanswered-end : (bytes : List ℕ) → TakesAll s.left bytes s.left_after → length bytes ≤ max_document_bytes → IsRun words → s.written_after ≡ s.written → (o : Outcome) → IsUnanswered F bytes o → IsEnd F words s o
   unanswered-end bytes takes short run same o h = by o h

@@ -1,5 +1,5 @@
 -- What the program answers: a document, the words of its command, and what is written.
-use Rattle.std.specs.Prelude.{◌≡◌, ℕ, List, [], ◌++◌, codes, string_bytes, ⊤}
+use Rattle.std.specs.Prelude.{◌≡◌, ◌⊎◌, ℕ, List, [], ◌++◌, codes, string_bytes, ⊤}
 use Rattle.ps_frame.specs.Csv.{csv_text_of}
 use Rattle.ps_frame.specs.Functions.{Functions}
 use Rattle.ps_frame.specs.Lines.{refusal_line}
@@ -34,6 +34,10 @@ pub record IsFaultLine (F : Functions) (plan : Plan) (line : List ℕ) : Type 0 
   pub fault : DataFault
   pub may : NodeMayFault F plan node fault
   pub is_line : line ≡ refusal_line (fault_error node fault) ++ codes "\n"
+
+-- the line tells why the bytes are no document
+abbrev pub IsNoDocumentLine : List ℕ → List ℕ → Type 0
+IsNoDocumentLine bytes line = ((¬ IsJson bytes) × (line ≡ codes "BadJson\n")) ⊎ (IsJson bytes × (¬ IsDocument bytes) × (line ≡ codes "BadDocument\n"))
 
 -- of the plan of the document
 abbrev pub OfPlan : List ℕ → (Plan → Type 0) → Type 0

@@ -152,7 +152,17 @@ fn other_words_are_no_command(rt: HostRuntime) -> Result<(), Fail> {
 fn options_change_no_answer(rt: HostRuntime) -> Result<(), Fail> {
     let table: [&[&str]; 2] = [
         &["run", "--serial"],
-        &["run", "--rows", "1", "--workers", "256", "--partitions", "3", "--seed", "7"],
+        &[
+            "run",
+            "--rows",
+            "1",
+            "--workers",
+            "256",
+            "--partitions",
+            "3",
+            "--seed",
+            "7",
+        ],
     ];
     for words in table {
         let given = Given {

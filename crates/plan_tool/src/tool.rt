@@ -1,11 +1,11 @@
 // One run of the program: words and a document in, a table out.
-ghost use Rattle.std.specs.Prelude.{◌≡◌, ◌≢◌, ◌<◌, ◌≤◌, ◌↔◌, ◌⊎◌, ℕ, List, Some, length};
+ghost use Rattle.std.specs.Prelude.{◌≡◌, ◌≢◌, ◌<◌, ◌≤◌, ◌↔◌, ◌⊎◌, [], ℕ, List, Some, length};
 ghost use Rattle.ps_document.specs.Document.{IsDocument};
 ghost use Rattle.ps_plan.specs.Meaning.{NothingBreaks};
 ghost use Rattle.ps_plan.specs.Refusals.{IsValid};
 ghost use Rattle.ps_tables.specs.Called.{functions_of};
 ghost use Rattle.tool_words.specs.Words.{AreWords, IsRun};
-ghost use Rattle.plan_tool.specs.Answers.{IsFaultLine, IsRefusalLine, OfEachPlan, OfPlan, line_of, status_of};
+ghost use Rattle.plan_tool.specs.Answers.{IsFaultLine, IsNoDocumentLine, IsRefusalLine, OfEachPlan, OfPlan, line_of, status_of};
 ghost use Rattle.plan_tool.specs.Outside.{Appends, AppendsFront, IsLonger, Rose};
 ghost use Rattle.plan_tool.specs.Runs.{IsEnd, IsToolText, Read, help_text, version_text};
 
@@ -51,13 +51,14 @@ pub fn run_tool<R: Threads + Wait + Sync, F: Functions, G: Gate, S: Source, K: S
 
     // Why else it ends.
     ensures usage { (result.status ≡ 2) ↔ ¬ AreWords words.now }
-    ensures no_document { result.status ≡ 3 → Read (S.left source.old) (λ bytes. ¬ IsDocument bytes) }
+    ensures no_document { result.status ≡ 3 → Read (S.left source.old) (λ bytes. (line : List ℕ) × IsNoDocumentLine bytes line × AppendsFront (E.written err.old) line (E.written err.new)) }
     ensures refused { result.status ≡ 4 → Read (S.left source.old) (λ bytes. (line : List ℕ) × OfPlan bytes (λ plan. IsRefusalLine (functions_of (F.counted functions.now) F.streams F.answer F.declared) plan line) × AppendsFront (E.written err.old) line (E.written err.new)) }
     ensures faulted { result.status ≡ 5 → Read (S.left source.old) (λ bytes. (line : List ℕ) × OfPlan bytes (λ plan. IsFaultLine (functions_of (F.counted functions.now) F.streams F.answer F.declared) plan line) × AppendsFront (E.written err.old) line (E.written err.new)) }
     ensures read_fault { result.status ≡ 6 → Rose (S.faults source.old) (S.faults source.new) }
     ensures write_fault { result.status ≡ 7 → Rose (K.faults out.old) (K.faults out.new) }
     ensures cut { result.status ≡ 7 → (text : List ℕ) × IsToolText (functions_of (F.counted functions.now) F.streams F.answer F.declared) words.now (S.left source.old) text × AppendsFront (K.written out.old) text (K.written out.new) }
     ensures too_long { result.status ≡ 8 → IsLonger MAX_DOCUMENT_BYTES (S.left source.old) }
+    ensures of_run { result.status ≢ 0 → result.status ≢ 2 → result.status ≢ 7 → result.status ≢ 9 → IsRun words.now }
 
     // Where one of these causes stands, it or an earlier one is answered, or want of memory.
     ensures longer { (bytes : List ℕ) → S.left source.old ≡ Some bytes → IsRun words.now → MAX_DOCUMENT_BYTES < length bytes → (result.status ≡ 8) ⊎ (result.status ≡ 6) ⊎ (result.status ≡ 9) }
@@ -97,7 +98,9 @@ fn outcome_of<R: Threads + Wait + Sync, F: Functions, G: Gate, S: Source, K: Sin
         Some(Command::Help) => write_text(out, help().as_bytes()),
         Some(Command::Version) => write_text(out, version().as_bytes()),
         Some(Command::Run { options, serial }) => {
-            run(rt, alloc, &options, serial, words, source, out, functions, gate)
+            run(
+                rt, alloc, &options, serial, words, source, out, functions, gate,
+            )
         }
     }
 }

@@ -1,6 +1,6 @@
 mod Examples
 mod Giving
 mod Numerals
-mod OneCommand
+pub mod OneCommand
 mod OneMore
 mod Reading
