@@ -1,7 +1,5 @@
+pub mod Answered
 pub mod Pieces
-pub mod Json
 pub mod CsvText
-pub mod Filtered
-pub mod Meant
-pub mod Arenas
+pub mod Runs
 pub mod ToolColumns

@@ -1,8 +1,8 @@
 pub mod Outside
 pub mod Memory
-pub mod FirstForm
 pub mod Csv
-pub mod FirstPlan
 pub mod Answers
+pub mod Errors
+pub mod Runs
 pub mod ToolAnswers
 pub mod ToolLaws

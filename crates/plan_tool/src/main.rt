@@ -1,13 +1,10 @@
 // Answers queries: a document of tables and a plan in, the table out.
 #![tactic(auto)]
 
+mod answer;
 pub mod csv_text;
-pub mod document;
 pub mod functions;
-pub mod gate;
 pub mod outcome;
-pub mod plan;
-mod query;
 pub mod reading;
 pub mod sink;
 pub mod source;
@@ -17,7 +14,7 @@ pub mod tool;
 pub mod writing;
 
 use functions::ToolFunctions;
-use gate::NoGate;
+use ps_exec::gate::NoGate;
 use sink::StdSink;
 use source::StdSource;
 use std::env;

@@ -2,14 +2,20 @@
 ghost use Rattle.std.specs.Prelude.{◌≡◌};
 
 /// How a run of the program ended.
-#[derive(Clone, Copy, Debug, PartialEq, Eq)]
+#[derive(Debug, Drop)]
 pub enum Outcome {
     /// The text was written whole.
     Written,
     /// The words aren't a command.
     Usage,
-    /// The bytes aren't a document that is answered so far.
-    NotBuilt,
+    /// The bytes are no JSON text.
+    BadJson,
+    /// The bytes are a JSON text, and no document.
+    BadDocument,
+    /// The plan isn't valid: the line says why, and at which node.
+    Refused(String),
+    /// The plan ended with a fault: the line says with which, and at which node.
+    Faulted(String),
     /// A read failed.
     ReadFault,
     /// A write failed.
@@ -24,13 +30,15 @@ impl Outcome {
     ghost use Rattle.plan_tool.specs.Answers.{line_of, status_of};
 
     /// The exit status.
-    pub fn status(self) -> u8
-        ensures { result ≡ status_of self }
+    pub fn status(&self) -> u8
+        ensures { result ≡ status_of self.now }
     {
         match self {
             Outcome::Written => 0,
             Outcome::Usage => 2,
-            Outcome::NotBuilt => 3,
+            Outcome::BadJson | Outcome::BadDocument => 3,
+            Outcome::Refused(_) => 4,
+            Outcome::Faulted(_) => 5,
             Outcome::ReadFault => 6,
             Outcome::WriteFault => 7,
             Outcome::TooLong => 8,
@@ -39,13 +47,15 @@ impl Outcome {
     }
 
     /// The line for standard error, with its newline; the empty text where there is none.
-    pub fn line(self) -> &'static str
-        ensures { result.now ≡ line_of self }
+    pub fn line(&self) -> &str
+        ensures { result.now ≡ line_of self.now }
     {
         match self {
             Outcome::Written => "",
             Outcome::Usage => "Usage\n",
-            Outcome::NotBuilt => "NotBuilt\n",
+            Outcome::BadJson => "BadJson\n",
+            Outcome::BadDocument => "BadDocument\n",
+            Outcome::Refused(line) | Outcome::Faulted(line) => line.as_str(),
             Outcome::ReadFault => "ReadFault\n",
             Outcome::WriteFault => "WriteFault\n",
             Outcome::TooLong => "TooLong\n",

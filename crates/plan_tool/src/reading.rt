@@ -36,7 +36,7 @@ impl From<AllocError> for ReadError {
 /// Reads a source to its end, at most `MAX_DOCUMENT_BYTES` bytes and one more.
 ///
 /// Fails where a read does, where one byte too many comes, and for want of memory.
-pub fn read_document<S: Source>(alloc: Global, source: &mut S) -> Result<Vec<u8>, ReadError>
+pub fn read_source<S: Source>(alloc: Global, source: &mut S) -> Result<Vec<u8>, ReadError>
     ensures whole { IfOk result (λ bytes. TakesAll (S.left source.old) bytes.items (S.left source.new)) }
     ensures limited { IfOk result (λ bytes. vec_len bytes ≤ MAX_DOCUMENT_BYTES) }
     ensures failed { IsErrOf result ReadError.Failed → Rose (S.faults source.old) (S.faults source.new) }

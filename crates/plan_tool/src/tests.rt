@@ -1,10 +1,10 @@
 // Runs of the program over sources and sinks in memory.
 use crate::functions::ToolFunctions;
-use crate::gate::NoGate;
 use crate::reading::MAX_DOCUMENT_BYTES;
 use crate::sink::{MemSink, StdSink};
 use crate::source::{MemSource, StdSource};
 use crate::tool::run_tool;
+use ps_exec::gate::NoGate;
 use std::alloc::Global;
 use std::sync::Wait;
 use std::test::Fail;
@@ -88,34 +88,40 @@ fn run<R: Threads + Wait + Sync + Alloc<A = Global>>(
 
 #[test]
 fn documents_are_answered_or_refused(rt: HostRuntime) -> Result<(), Fail> {
-    let table: [(&str, u8, &str, &str); 7] = [
+    let table: [(&str, u8, &str, &str); 8] = [
         (FILTER, 0, "a\n2\n3\n", ""),
         (
-            r#"{"root":2,"nodes":[["scan",0,null],["filter",0,2],["sink",1]],"exprs":[["col","a"],["int",2],["gt",0,1]],"tables":[[["a","int",[2,2,3]]]]}"#,
+            r#"{"root":4,"nodes":[["scan",0,null],["group_by",0,[["k",0]],[["s",2]],true,null],["join",0,1,"left",[0],[0],null,false,"m:m",null],["sort",2,[1],[true],[false],[1,2]],["sink",3]],"exprs":[["col","k"],["col","a"],["sum",1]],"tables":[[["k","str",["x","y","x"]],["a","int",[1,2,3]]]]}"#,
             0,
-            "a\n3\n",
-            "",
-        ),
-        (
-            r#"{"tables":[[["a","int",[]]]],"exprs":[["col","a"],["int",1],["gt",0,1]],"nodes":[["scan",0,null],["filter",0,2],["sink",1]],"root":2}"#,
-            0,
-            "a\n",
+            "k,a,s\ny,2,2\nx,1,4\n",
             "",
         ),
         (
             r#"{"tables":[[["a","int",[1]]]],"exprs":[["col","z"],["int",1],["gt",0,1]],"nodes":[["scan",0,null],["filter",0,2],["sink",1]],"root":2}"#,
-            3,
+            4,
             "",
-            "NotBuilt\n",
+            "ColumnNotFound at 1: z\n",
         ),
         (
-            r#"{"tables":[[["a","int",[9223372036854775808]]]],"exprs":[["col","a"],["int",1],["gt",0,1]],"nodes":[["scan",0,null],["filter",0,2],["sink",1]],"root":2}"#,
+            r#"{"tables":[[["a","str",["x"]]]],"exprs":[["col","a"],["cast",0,"int",true]],"nodes":[["scan",0,null],["select",0,[["a",1]]],["sink",1]],"root":2}"#,
+            5,
+            "",
+            "ComputeError StrictCast at 1\n",
+        ),
+        (
+            r#"{"tables":[[["a","int",[9223372036854775808]]]],"exprs":[],"nodes":[["scan",0,null],["sink",0]],"root":1}"#,
             3,
             "",
-            "NotBuilt\n",
+            "BadDocument\n",
         ),
-        ("", 3, "", "NotBuilt\n"),
-        ("[]", 3, "", "NotBuilt\n"),
+        ("", 3, "", "BadJson\n"),
+        ("[]", 3, "", "BadDocument\n"),
+        (
+            r#"{"tables":[],"exprs":[],"nodes":[],"root":0}"#,
+            4,
+            "",
+            "InvalidPlan Shape at 0\n",
+        ),
     ];
     for (document, status, out, err) in table {
         let left = run(&rt, &whole(document))?;
@@ -128,7 +134,7 @@ fn documents_are_answered_or_refused(rt: HostRuntime) -> Result<(), Fail> {
 
 #[test]
 fn other_words_are_no_command(rt: HostRuntime) -> Result<(), Fail> {
-    let table: [&[&str]; 4] = [&[], &["walk"], &["run", "run"], &["run", "--workers", "0"]];
+    let table: [&[&str]; 4] = [&[], &["trace"], &["run", "run"], &["run", "--workers", "0"]];
     for words in table {
         let given = Given {
             words,
@@ -139,6 +145,46 @@ fn other_words_are_no_command(rt: HostRuntime) -> Result<(), Fail> {
         assert_eq!(rt; left.out.len(), 0);
         assert_eq!(rt; left.err.as_slice(), "Usage\n".as_bytes());
     }
+    Ok(())
+}
+
+#[test]
+fn options_change_no_answer(rt: HostRuntime) -> Result<(), Fail> {
+    let table: [&[&str]; 2] = [
+        &["run", "--serial"],
+        &[
+            "run",
+            "--rows",
+            "1",
+            "--workers",
+            "256",
+            "--partitions",
+            "3",
+            "--seed",
+            "7",
+        ],
+    ];
+    for words in table {
+        let given = Given {
+            words,
+            ..whole(FILTER)
+        };
+        let left = run(&rt, &given)?;
+        assert_eq!(rt; left.status, 0);
+        assert_eq!(rt; left.out.as_slice(), "a\n2\n3\n".as_bytes());
+    }
+    let version = Given {
+        words: &["--version"],
+        ..whole("")
+    };
+    let left = run(&rt, &version)?;
+    assert_eq!(rt; left.status, 0);
+    assert_eq!(rt; left.out.as_slice(), "plan_tool 0.1.0\n".as_bytes());
+    let help = Given {
+        words: &["--help"],
+        ..whole("")
+    };
+    assert!(rt; run(&rt, &help)?.out.len() > 100);
     Ok(())
 }
 

@@ -1,34 +1,40 @@
 // One run of the program: words and a document in, a table out.
-ghost use Rattle.std.specs.Prelude.{◌≡◌, ◌≢◌, ◌<◌, ◌≤◌, ◌↔◌, ◌⊎◌, ◌∷◌, [], ℕ, List, Some, IsTrue, IfOk, IfSome, IsErrOf, length};
-ghost use Rattle.plan_tool.specs.Answers.{IsAnswerText, IsDocument, IsRun, line_of, status_of};
-ghost use Rattle.plan_tool.specs.FirstForm.{FirstForm, IsFirstForm};
+ghost use Rattle.std.specs.Prelude.{◌≡◌, ◌≢◌, ◌<◌, ◌≤◌, ◌↔◌, ◌⊎◌, [], ℕ, List, Some, length};
+ghost use Rattle.ps_document.specs.Document.{IsDocument};
+ghost use Rattle.ps_plan.specs.Meaning.{NothingBreaks};
+ghost use Rattle.ps_plan.specs.Refusals.{IsValid};
+ghost use Rattle.ps_tables.specs.Called.{functions_of};
+ghost use Rattle.tool_words.specs.Words.{AreWords, IsRun};
+ghost use Rattle.plan_tool.specs.Answers.{IsFaultLine, IsNoDocumentLine, IsRefusalLine, OfEachPlan, OfPlan, line_of, status_of};
 ghost use Rattle.plan_tool.specs.Outside.{Appends, AppendsFront, IsLonger, Rose};
+ghost use Rattle.plan_tool.specs.Runs.{IsEnd, IsToolText, Read, help_text, version_text};
 
-use crate::csv_text::csv_text;
-use crate::document::read_first_form;
-use crate::gate::Gate;
+use crate::answer::answer;
 use crate::outcome::Outcome;
-use crate::plan::plan_of;
-use crate::query::answer;
-use crate::reading::{MAX_DOCUMENT_BYTES, ReadError, read_document};
+use crate::reading::{MAX_DOCUMENT_BYTES, ReadError, read_source};
 use crate::sink::Sink;
 use crate::source::{Failed, Source};
 use crate::writing::write_whole;
+use ps_exec::gate::Gate;
 use ps_frame::functions::Functions;
+use ps_nodes::options::Options;
 use std::alloc::Global;
 use std::sync::Wait;
 use std::thread::Threads;
+use tool_words::command::{Command, command_of};
 
 /// How a run ended.
 #[derive(Clone, Copy, Debug, PartialEq, Eq)]
 pub struct Ended {
-    /// The exit status: 0 where the text was written whole, 2 where the words aren't a command, 3 where the bytes aren't a document
-    /// that is answered so far, 6 where a read failed, 7 where a write failed, 8 where the document is too long, and 9 for want of memory.
+    /// The exit status: 0 where the text was written whole, 2 where the words aren't a command, 3 where the bytes aren't
+    /// a document, 4 where the plan isn't valid, 5 where it ends with a fault, 6 where a read failed, 7 where a write
+    /// failed, 8 where the document is too long, and 9 for want of memory.
     pub status: u8,
 }
 
-/// Runs the program: reads a document from the source, and writes the CSV text of the table that its plan means to `out`.
-/// Where it doesn't, it writes a line that says why to `err`.
+/// Runs the program. With `run` it reads a document from the source, and writes the CSV text of the table that its plan
+/// means to `out`; with `--help` and `--version` it writes what they ask for. Where it doesn't, it writes a line that
+/// says why to `err`.
 pub fn run_tool<R: Threads + Wait + Sync, F: Functions, G: Gate, S: Source, K: Sink, E: Sink>(
     rt: &R,
     alloc: Global,
@@ -39,85 +45,95 @@ pub fn run_tool<R: Threads + Wait + Sync, F: Functions, G: Gate, S: Source, K: S
     functions: &F,
     gate: &G,
 ) -> Ended
-    // The main theorem: what was written is the CSV text of a whole table that the plan of the document means.
-    ensures answered { result.status ≡ 0 → (bytes : List ℕ) → S.left source.old ≡ Some bytes → (text : List ℕ) × IsAnswerText bytes text × Appends (K.written out.old) text (K.written out.new) × (S.left source.new ≡ Some []) }
+    // The main theorem: what was written is, for `run`, the CSV text of a whole table that the plan of the document means.
+    ensures answered { result.status ≡ 0 → (text : List ℕ) × IsToolText (functions_of (F.counted functions.now) F.streams F.answer F.declared) words.now (S.left source.old) text × Appends (K.written out.old) text (K.written out.new) }
+    ensures read { result.status ≡ 0 → IsRun words.now → Read (S.left source.old) (λ _. S.left source.new ≡ Some []) }
 
     // Why else it ends.
-    ensures usage { (result.status ≡ 2) ↔ ¬ IsRun words.now }
+    ensures usage { (result.status ≡ 2) ↔ ¬ AreWords words.now }
+    ensures no_document { result.status ≡ 3 → Read (S.left source.old) (λ bytes. (line : List ℕ) × IsNoDocumentLine bytes line × AppendsFront (E.written err.old) line (E.written err.new)) }
+    ensures refused { result.status ≡ 4 → Read (S.left source.old) (λ bytes. (line : List ℕ) × OfPlan bytes (λ plan. IsRefusalLine (functions_of (F.counted functions.now) F.streams F.answer F.declared) plan line) × AppendsFront (E.written err.old) line (E.written err.new)) }
+    ensures faulted { result.status ≡ 5 → Read (S.left source.old) (λ bytes. (line : List ℕ) × OfPlan bytes (λ plan. IsFaultLine (functions_of (F.counted functions.now) F.streams F.answer F.declared) plan line) × AppendsFront (E.written err.old) line (E.written err.new)) }
     ensures read_fault { result.status ≡ 6 → Rose (S.faults source.old) (S.faults source.new) }
-    ensures too_long { result.status ≡ 8 → IsLonger MAX_DOCUMENT_BYTES (S.left source.old) }
-    ensures not_built { result.status ≡ 3 → (bytes : List ℕ) → S.left source.old ≡ Some bytes → ¬ IsDocument bytes }
     ensures write_fault { result.status ≡ 7 → Rose (K.faults out.old) (K.faults out.new) }
+    ensures cut { result.status ≡ 7 → (text : List ℕ) × IsToolText (functions_of (F.counted functions.now) F.streams F.answer F.declared) words.now (S.left source.old) text × AppendsFront (K.written out.old) text (K.written out.new) }
+    ensures too_long { result.status ≡ 8 → IsLonger MAX_DOCUMENT_BYTES (S.left source.old) }
+    ensures of_run { result.status ≢ 0 → result.status ≢ 2 → result.status ≢ 7 → result.status ≢ 9 → IsRun words.now }
 
-    // Where one of these causes stands, nothing after it is answered.
-    ensures longer { (bytes : List ℕ) → S.left source.old ≡ Some bytes → MAX_DOCUMENT_BYTES < length bytes → IsRun words.now → (result.status ≡ 8) ⊎ (result.status ≡ 6) ⊎ (result.status ≡ 9) }
-    ensures other { (bytes : List ℕ) → S.left source.old ≡ Some bytes → ¬ IsDocument bytes → (result.status ≢ 0) × (result.status ≢ 7) }
+    // Where one of these causes stands, it or an earlier one is answered, or want of memory.
+    ensures longer { (bytes : List ℕ) → S.left source.old ≡ Some bytes → IsRun words.now → MAX_DOCUMENT_BYTES < length bytes → (result.status ≡ 8) ⊎ (result.status ≡ 6) ⊎ (result.status ≡ 9) }
+    ensures other { (bytes : List ℕ) → S.left source.old ≡ Some bytes → IsRun words.now → length bytes ≤ MAX_DOCUMENT_BYTES → ¬ IsDocument bytes → (result.status ≡ 3) ⊎ (result.status ≡ 6) ⊎ (result.status ≡ 9) }
+    ensures invalid { (bytes : List ℕ) → S.left source.old ≡ Some bytes → IsRun words.now → length bytes ≤ MAX_DOCUMENT_BYTES → IsDocument bytes → OfEachPlan bytes (λ plan. ¬ IsValid (functions_of (F.counted functions.now) F.streams F.answer F.declared) plan) → (result.status ≡ 4) ⊎ (result.status ≡ 6) ⊎ (result.status ≡ 9) }
 
-    // A document is answered.
-    ensures complete { (bytes : List ℕ) → S.left source.old ≡ Some bytes → IsDocument bytes → length bytes ≤ MAX_DOCUMENT_BYTES → IsRun words.now
+    // A document of a valid plan that nothing can break is answered.
+    ensures complete { (bytes : List ℕ) → S.left source.old ≡ Some bytes → IsRun words.now → length bytes ≤ MAX_DOCUMENT_BYTES → IsDocument bytes
+        → OfEachPlan bytes (λ plan. IsValid (functions_of (F.counted functions.now) F.streams F.answer F.declared) plan × NothingBreaks (functions_of (F.counted functions.now) F.streams F.answer F.declared) plan)
         → ¬ Rose (S.faults source.old) (S.faults source.new) → ¬ Rose (K.faults out.old) (K.faults out.new) → (result.status ≡ 0) ⊎ (result.status ≡ 9) }
 
     // What is written beside the text.
     ensures silent { result.status ≢ 0 → result.status ≢ 7 → K.written out.new ≡ K.written out.old }
     ensures line { (o : Outcome) × (result.status ≡ status_of o) × AppendsFront (E.written err.old) (line_of o) (E.written err.new) × (¬ Rose (E.faults err.old) (E.faults err.new) → Appends (E.written err.old) (line_of o) (E.written err.new)) }
 {
-    let _rt = rt;
-    let _functions = functions;
-    let _gate = gate;
-    let outcome = outcome_of(alloc, words, source, out);
-    write_line(err, outcome);
+    let outcome = outcome_of(rt, alloc, words, source, out, functions, gate);
+    write_line(err, &outcome);
     Ended {
         status: outcome.status(),
     }
 }
 
 /// How the run ends, without its line.
-fn outcome_of<S: Source, K: Sink>(
+fn outcome_of<R: Threads + Wait + Sync, F: Functions, G: Gate, S: Source, K: Sink>(
+    rt: &R,
     alloc: Global,
     words: &[String],
     source: &mut S,
     out: &mut K,
+    functions: &F,
+    gate: &G,
 ) -> Outcome
-    ensures answered { result ≡ Outcome.Written → (bytes : List ℕ) → S.left source.old ≡ Some bytes → (text : List ℕ) × IsAnswerText bytes text × Appends (K.written out.old) text (K.written out.new) × (S.left source.new ≡ Some []) }
-    ensures usage { (result ≡ Outcome.Usage) ↔ ¬ IsRun words.now }
-    ensures read_fault { result ≡ Outcome.ReadFault → Rose (S.faults source.old) (S.faults source.new) }
-    ensures too_long { result ≡ Outcome.TooLong → IsLonger MAX_DOCUMENT_BYTES (S.left source.old) }
-    ensures not_built { result ≡ Outcome.NotBuilt → (bytes : List ℕ) → S.left source.old ≡ Some bytes → ¬ IsDocument bytes }
-    ensures write_fault { result ≡ Outcome.WriteFault → Rose (K.faults out.old) (K.faults out.new) }
-    ensures fits { (result ≡ Outcome.Written) ⊎ (result ≡ Outcome.WriteFault) ⊎ (result ≡ Outcome.NotBuilt) → (bytes : List ℕ) → S.left source.old ≡ Some bytes → length bytes ≤ MAX_DOCUMENT_BYTES }
-    ensures document { (result ≡ Outcome.Written) ⊎ (result ≡ Outcome.WriteFault) → (bytes : List ℕ) → S.left source.old ≡ Some bytes → IsDocument bytes }
-    ensures silent { result ≢ Outcome.Written → result ≢ Outcome.WriteFault → K.written out.new ≡ K.written out.old }
+    ensures { IsEnd (functions_of (F.counted functions.now) F.streams F.answer F.declared) words.now (record { left = S.left source.old; left_after = S.left source.new; read_faults = S.faults source.old; read_faults_after = S.faults source.new; written = K.written out.old; written_after = K.written out.new; write_faults = K.faults out.old; write_faults_after = K.faults out.new }) result }
 {
-    if !is_run(words) {
-        return Outcome::Usage;
-    }
-    let bytes = match read_document(alloc, source) {
-        Ok(bytes) => bytes,
-        Err(error) => return unread(error),
-    };
-    let text = match answer_text(alloc, bytes) {
-        Ok(text) => text,
-        Err(refusal) => return unanswered(refusal),
-    };
-    match write_whole(out, text.as_slice()) {
-        Ok(()) => Outcome::Written,
-        Err(Failed) => Outcome::WriteFault,
+    match command_of(words) {
+        None => Outcome::Usage,
+        Some(Command::Help) => write_text(out, help().as_bytes()),
+        Some(Command::Version) => write_text(out, version().as_bytes()),
+        Some(Command::Run { options, serial }) => {
+            run(
+                rt, alloc, &options, serial, words, source, out, functions, gate,
+            )
+        }
     }
 }
 
-fn is_run(words: &[String]) -> bool
-    ensures { IsTrue result ↔ IsRun words.now }
+/// Answers the document of a source.
+fn run<R: Threads + Wait + Sync, F: Functions, G: Gate, S: Source, K: Sink>(
+    rt: &R,
+    alloc: Global,
+    options: &Options,
+    serial: bool,
+    words: &[String],
+    source: &mut S,
+    out: &mut K,
+    functions: &F,
+    gate: &G,
+) -> Outcome
+    requires { IsRun words.now }
+    ensures { IsEnd (functions_of (F.counted functions.now) F.streams F.answer F.declared) words.now (record { left = S.left source.old; left_after = S.left source.new; read_faults = S.faults source.old; read_faults_after = S.faults source.new; written = K.written out.old; written_after = K.written out.new; write_faults = K.faults out.old; write_faults_after = K.faults out.new }) result }
 {
-    match words {
-        [word] => word.as_str() == "run",
-        _ => false,
+    let bytes = match read_source(alloc, source) {
+        Ok(bytes) => bytes,
+        Err(error) => return unread(error),
+    };
+    match answer(rt, alloc, bytes, options, serial, functions, gate) {
+        Ok(text) => write_text(out, text.as_slice()),
+        Err(outcome) => outcome,
     }
 }
 
 fn unread(error: ReadError) -> Outcome
-    ensures failed { (result ≡ Outcome.ReadFault) ↔ (error ≡ ReadError.Failed) }
-    ensures too_long { (result ≡ Outcome.TooLong) ↔ (error ≡ ReadError.TooLong) }
-    ensures memory { (result ≡ Outcome.OutOfMemory) ↔ (error ≡ ReadError.OutOfMemory) }
+    ensures failed { error ≡ ReadError.Failed → result ≡ Outcome.ReadFault }
+    ensures too_long { error ≡ ReadError.TooLong → result ≡ Outcome.TooLong }
+    ensures memory { error ≡ ReadError.OutOfMemory → result ≡ Outcome.OutOfMemory }
 {
     match error {
         ReadError::Failed => Outcome::ReadFault,
@@ -126,51 +142,37 @@ fn unread(error: ReadError) -> Outcome
     }
 }
 
-/// Why there is no text.
-#[derive(Clone, Copy, Debug, PartialEq, Eq)]
-enum Refusal {
-    NotBuilt,
-    OutOfMemory,
-}
-
-fn unanswered(refusal: Refusal) -> Outcome
-    ensures not_built { (result ≡ Outcome.NotBuilt) ↔ (refusal ≡ Refusal.NotBuilt) }
-    ensures memory { (result ≡ Outcome.OutOfMemory) ↔ (refusal ≡ Refusal.OutOfMemory) }
+/// Writes a text; where that fails, a front of it stands there.
+fn write_text<K: Sink>(out: &mut K, text: &[u8]) -> Outcome
+    ensures outcomes { (result ≡ Outcome.Written) ⊎ (result ≡ Outcome.WriteFault) }
+    ensures whole { result ≡ Outcome.Written → Appends (K.written out.old) text.now (K.written out.new) }
+    ensures front { result ≡ Outcome.WriteFault → AppendsFront (K.written out.old) text.now (K.written out.new) }
+    ensures failed { result ≡ Outcome.WriteFault → Rose (K.faults out.old) (K.faults out.new) }
 {
-    match refusal {
-        Refusal::NotBuilt => Outcome::NotBuilt,
-        Refusal::OutOfMemory => Outcome::OutOfMemory,
+    match write_whole(out, text) {
+        Ok(()) => Outcome::Written,
+        Err(Failed) => Outcome::WriteFault,
     }
 }
 
-/// The text that answers a document.
-///
-/// Fails where the bytes are no document, and for want of memory.
-fn answer_text(alloc: Global, bytes: Vec<u8>) -> Result<Vec<u8>, Refusal>
-    ensures text { IfOk result (λ text. IsAnswerText bytes.items text.items) }
-    ensures not_built { IsErrOf result Refusal.NotBuilt → ¬ IsDocument bytes.items }
+/// How the program is used.
+fn help() -> &'static str
+    ensures { result.now ≡ help_text }
 {
-    let document = match read_first_form(alloc, bytes) {
-        Ok(Some(document)) => document,
-        Ok(None) => return Err(Refusal::NotBuilt),
-        Err(_) => return Err(Refusal::OutOfMemory),
-    };
-    let Ok(plan) = plan_of(alloc, document) else {
-        return Err(Refusal::OutOfMemory);
-    };
-    let Ok(table) = answer(alloc, &plan) else {
-        return Err(Refusal::OutOfMemory);
-    };
-    match csv_text(alloc, &table) {
-        Ok(text) => Ok(text),
-        Err(_) => Err(Refusal::OutOfMemory),
-    }
+    "plan_tool answers queries: a document of tables and a plan on standard input, the table as CSV on standard output.\n\nplan_tool run [--workers N] [--rows N] [--partitions N] [--seed N] [--serial]\nplan_tool --help\nplan_tool --version\n"
+}
+
+/// The name and the version of the program.
+fn version() -> &'static str
+    ensures { result.now ≡ version_text }
+{
+    "plan_tool 0.1.0\n"
 }
 
 /// Writes the line of an outcome; where that fails, a front of it stands there.
-fn write_line<E: Sink>(err: &mut E, outcome: Outcome)
-    ensures front { AppendsFront (E.written err.old) (line_of outcome) (E.written err.new) }
-    ensures whole { ¬ Rose (E.faults err.old) (E.faults err.new) → Appends (E.written err.old) (line_of outcome) (E.written err.new) }
+fn write_line<E: Sink>(err: &mut E, outcome: &Outcome)
+    ensures front { AppendsFront (E.written err.old) (line_of outcome.now) (E.written err.new) }
+    ensures whole { ¬ Rose (E.faults err.old) (E.faults err.new) → Appends (E.written err.old) (line_of outcome.now) (E.written err.new) }
 {
     let _ = write_whole(err, outcome.line().as_bytes());
 }

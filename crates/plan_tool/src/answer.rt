@@ -1,0 +1,136 @@
+// The answer to a document.
+ghost use Rattle.std.specs.Prelude.{◌≡◌, IfErr, IfOk};
+ghost use Rattle.ps_document.specs.Document.{IsDocument, IsJson};
+ghost use Rattle.ps_frame.specs.Csv.{csv_text_of};
+ghost use Rattle.ps_exec.specs.Queries.{IsQueryAnswer, IsQueryError};
+ghost use Rattle.ps_survey.specs.Flaws.{plan_of};
+ghost use Rattle.ps_tables.specs.Called.{functions_of};
+ghost use Rattle.plan_tool.specs.Answers.{IsPlanOutcome, IsPlanText, IsUnanswered, OfPlan};
+ghost use Rattle.plan_tool.specs.Errors.{IsOutcomeOf};
+
+use crate::csv_text::csv_text;
+use crate::outcome::Outcome;
+use ps_document::document::{Document, DocumentError, read_document};
+use ps_exec::gate::Gate;
+use ps_exec::query::{run_query, run_query_serial};
+use ps_frame::frame::DataFrame;
+use ps_frame::functions::Functions;
+use ps_frame::refusal::{Compute, PolarsError, PolarsResult};
+use ps_nodes::options::Options;
+use std::alloc::Global;
+use std::sync::Wait;
+use std::thread::Threads;
+
+/// The text that answers the document of these bytes, or how the run ends without one.
+pub(crate) fn answer<R: Threads + Wait + Sync, F: Functions, G: Gate>(
+    rt: &R,
+    alloc: Global,
+    bytes: Vec<u8>,
+    options: &Options,
+    serial: bool,
+    functions: &F,
+    gate: &G,
+) -> Result<Vec<u8>, Outcome>
+    ensures text { IfOk result (λ text. OfPlan bytes.items (λ plan. IsPlanText (functions_of (F.counted functions.now) F.streams F.answer F.declared) plan text.items)) }
+    ensures outcome { IfErr result (IsUnanswered (functions_of (F.counted functions.now) F.streams F.answer F.declared) bytes.items) }
+{
+    match read_document(alloc, bytes) {
+        Ok(document) => answer_to(rt, alloc, document, options, serial, functions, gate),
+        Err(error) => Err(unread(error)),
+    }
+}
+
+fn unread(error: DocumentError) -> Outcome
+    ensures json { error ≡ DocumentError.BadJson → result ≡ Outcome.BadJson }
+    ensures document { error ≡ DocumentError.BadDocument → result ≡ Outcome.BadDocument }
+    ensures memory { error ≡ DocumentError.OutOfMemory → result ≡ Outcome.OutOfMemory }
+{
+    match error {
+        DocumentError::BadJson => Outcome::BadJson,
+        DocumentError::BadDocument => Outcome::BadDocument,
+        DocumentError::OutOfMemory => Outcome::OutOfMemory,
+    }
+}
+
+/// The text that answers a document.
+fn answer_to<R: Threads + Wait + Sync, F: Functions, G: Gate>(
+    rt: &R,
+    alloc: Global,
+    document: Document,
+    options: &Options,
+    serial: bool,
+    functions: &F,
+    gate: &G,
+) -> Result<Vec<u8>, Outcome>
+    ensures text { IfOk result (λ text. IsPlanText (functions_of (F.counted functions.now) F.streams F.answer F.declared) (plan_of document.root document.nodes document.exprs) text.items) }
+    ensures outcome { IfErr result (IsPlanOutcome (functions_of (F.counted functions.now) F.streams F.answer F.declared) (plan_of document.root document.nodes document.exprs)) }
+{
+    match table_of(rt, alloc, document, options, serial, functions, gate) {
+        Ok(table) => text_of(alloc, &table),
+        Err(error) => Err(unanswered(alloc, &error)),
+    }
+}
+
+fn text_of(alloc: Global, table: &DataFrame) -> Result<Vec<u8>, Outcome>
+    ensures text { IfOk result (λ text. text.items ≡ csv_text_of table.now) }
+    ensures memory { IfErr result (λ o. o ≡ Outcome.OutOfMemory) }
+{
+    match csv_text(alloc, table) {
+        Ok(text) => Ok(text),
+        Err(_) => Err(Outcome::OutOfMemory),
+    }
+}
+
+/// The table that a document's plan means, by workers or by this thread alone.
+fn table_of<R: Threads + Wait + Sync, F: Functions, G: Gate>(
+    rt: &R,
+    alloc: Global,
+    document: Document,
+    options: &Options,
+    serial: bool,
+    functions: &F,
+    gate: &G,
+) -> PolarsResult<DataFrame>
+    ensures table { IfOk result (IsQueryAnswer (functions_of (F.counted functions.now) F.streams F.answer F.declared) (plan_of document.root document.nodes document.exprs)) }
+    ensures error { IfErr result (IsQueryError (functions_of (F.counted functions.now) F.streams F.answer F.declared) (plan_of document.root document.nodes document.exprs)) }
+{
+    let Document {
+        nodes,
+        mut exprs,
+        root,
+    } = document;
+    let answer = if serial {
+        run_query_serial(alloc, root, nodes, &mut exprs, functions, options)
+    } else {
+        run_query(rt, alloc, root, nodes, &mut exprs, functions, gate, options)
+    };
+    match answer {
+        Ok(Some(table)) => Ok(table),
+        Ok(None) => unreachable!(),
+        Err(error) => Err(error),
+    }
+}
+
+/// How a run ends whose query gave an error.
+fn unanswered(alloc: Global, error: &PolarsError) -> Outcome
+    ensures { IsOutcomeOf error.now result }
+{
+    let Ok(line) = format!(in alloc; "{error}\n") else {
+        return Outcome::OutOfMemory;
+    };
+    match error {
+        PolarsError::OutOfMemory => Outcome::OutOfMemory,
+        PolarsError::InvalidPlan { .. }
+        | PolarsError::ColumnNotFound { .. }
+        | PolarsError::Duplicate { .. }
+        | PolarsError::SchemaMismatch { .. }
+        | PolarsError::Unsupported { .. } => Outcome::Refused(line),
+        PolarsError::ComputeError { why, .. } => match why {
+            Compute::NoKey => Outcome::Refused(line),
+            Compute::StrictCast | Compute::SliceBound | Compute::Function => Outcome::Faulted(line),
+        },
+        PolarsError::ShapeMismatch { .. } | PolarsError::OutOfBounds { .. } => {
+            Outcome::Faulted(line)
+        }
+    }
+}
