@@ -1,0 +1,14 @@
+use Rattle.std.proofs.Common.{◌≡◌, take}
+use Rattle.ps_tables.specs.Called.{functions_of}
+use Rattle.ps_validate.specs.Valid.{plan_with}
+use Rattle.ps_walks.specs.Accepted.{schemas_at}
+use Rattle.ps_walks.specs.Fit.{plan_schemas}
+use Rattle.ps_evaluate.specs.Ready.{frame_schemas}
+use Rattle.node_trials.proofs.tables.+node_table.Given as goal
+
+abbrev pub decreases-node_table : goal.decreases-node_table
+decreases-node_table g l = l.depth
+
+abbrev pub invariant-loop-input : goal.invariant-loop-input
+invariant-loop-input g l =
+    frame_schemas l.tables.items ≡ schemas_at (plan_schemas (functions_of (g.F.Functions.counted l.functions) g.F.Functions.streams g.F.Functions.answer g.F.Functions.declared) (plan_with l.valid l.exprs)) (take l.input-index l.input-items)

@@ -1,0 +1,134 @@
+// Tables of small numbers, made from a seed, and rows that are compared.
+use crate::plain::Row;
+use crate::trial::{document, table_of};
+use ps_frame::column::Column;
+use ps_frame::frame::DataFrame;
+use ps_frame::value::Value;
+use std::alloc::{AllocError, Global};
+use std::test::Fail;
+
+/// Numbers that follow from a seed.
+#[derive(Drop)]
+pub struct Numbers {
+    state: u64,
+}
+
+impl Numbers {
+    pub fn new(seed: u64) -> Numbers {
+        Numbers { state: seed }
+    }
+
+    /// A number below a bound, or 0.
+    pub fn below(&mut self, bound: u64) -> u64 {
+        self.state = self
+            .state
+            .wrapping_mul(6364136223846793005)
+            .wrapping_add(1442695040888963407);
+        (self.state >> 33).checked_rem(bound).unwrap_or(0)
+    }
+
+    pub fn coin(&mut self) -> bool {
+        self.below(2) == 1
+    }
+
+    /// A number from 1 up, or null.
+    fn number_or_null(&mut self, bound: u64) -> Option<i64> {
+        match self.below(bound) {
+            0 => None,
+            n => i64::try_from(n).ok(),
+        }
+    }
+
+    /// Up to eight rows of two numbers, of which the first are few.
+    pub fn rows(&mut self, alloc: Global) -> Result<Vec<Row>, AllocError> {
+        let mut rows = Vec::new(alloc);
+        for _ in 0..self.below(9) {
+            let key = self.number_or_null(4);
+            let number = self.number_or_null(6);
+            rows.push(vec![in alloc; key, number]?)?;
+        }
+        Ok(rows)
+    }
+}
+
+// The numbers of the rows at a place, as a column of a document.
+fn column_text(
+    alloc: Global,
+    name: &str,
+    rows: &[Row],
+    place: usize,
+) -> Result<String, AllocError> {
+    let mut text = format!(in alloc; "[\"{name}\",\"int\",[")?;
+    for (i, row) in rows.iter().enumerate() {
+        if i > 0 {
+            text.push(',')?;
+        }
+        match row.get(place) {
+            Some(Some(number)) => write!(text, "{number}")?,
+            _ => text.push_str("null")?,
+        }
+    }
+    text.push_str("]]")?;
+    Ok(text)
+}
+
+/// Rows as a table of a document, whose columns are k and a name.
+pub fn table_text(alloc: Global, name: &str, rows: &[Row]) -> Result<String, AllocError> {
+    let keys = column_text(alloc, "k", rows, 0)?;
+    let numbers = column_text(alloc, name, rows, 1)?;
+    format!(in alloc; "[{keys},{numbers}]")
+}
+
+fn number(column: &Column, row: usize) -> Result<Option<i64>, Fail> {
+    if row >= column.len() {
+        return Err(Fail::from("a column is too short"));
+    }
+    match column.value(row) {
+        Value::Null => Ok(None),
+        Value::Int64(z) => Ok(Some(*z)),
+        Value::IdxSize(n) => Ok(Some(i64::from(*n))),
+        _ => Err(Fail::from("no number")),
+    }
+}
+
+fn rows_of(alloc: Global, df: &DataFrame) -> Result<Vec<Row>, Fail> {
+    let mut rows = Vec::new(alloc);
+    for i in 0..df.height() {
+        let mut row = Vec::new(alloc);
+        for column in df.get_columns() {
+            row.push(number(column, i)?)?;
+        }
+        rows.push(row)?;
+    }
+    Ok(rows)
+}
+
+/// The rows of a node over tables.
+pub fn rows_from(
+    alloc: Global,
+    tables: &[&str],
+    exprs: &str,
+    node: &str,
+) -> Result<Vec<Row>, Fail> {
+    let document = document(alloc, tables, exprs, &[node])?;
+    match table_of(alloc, document.as_str())? {
+        Ok(df) => rows_of(alloc, &df),
+        Err(_error) => Err(Fail::from("no table")),
+    }
+}
+
+fn count(rows: &[Row], row: &Row) -> usize {
+    rows.iter()
+        .filter(|other| other.as_slice() == row.as_slice())
+        .count()
+}
+
+/// Whether these are the same rows in the same order.
+pub fn same(a: &[Row], b: &[Row]) -> bool {
+    a.len() == b.len() && a.iter().zip(b).all(|(x, y)| x.as_slice() == y.as_slice())
+}
+
+/// Whether these are the same rows in any order.
+pub fn permuted(a: &[Row], b: &[Row]) -> bool {
+    a.len() == b.len() && a.iter().all(|row| count(a, row) == count(b, row))
+}

@@ -1,0 +1,175 @@
+// A document's answer as text.
+ghost use Rattle.std.specs.Prelude.{◌≡◌, ◌<◌};
+
+use crate::tables::node_table;
+use ps_document::document::{Document, read_document};
+use ps_frame::column::Column;
+use ps_frame::expr::AExpr;
+use ps_frame::frame::DataFrame;
+use ps_frame::functions::{CallError, Functions};
+use ps_frame::refusal::PolarsResult;
+use ps_frame::schema::Schema;
+use ps_frame::value::Value;
+use ps_plan::ir::IR;
+use ps_validate::validate::validate;
+use pu_index::{Arena, Node};
+use pu_order::Steps;
+use std::alloc::{AllocError, Global};
+use std::marker::Brand;
+use std::sync::ledger::{Blank, Ledger};
+use std::test::Fail;
+
+// One function, which answers a table by itself.
+struct Same;
+
+impl Functions for Same {
+    ghost use Rattle.std.specs.Prelude.{Option, Some, option_map, true, refl};
+    ghost use Rattle.std.proofs.Common.{ap, subst};
+    ghost use Rattle.std.proofs.lemmas.Option.{same_Some};
+    ghost use Rattle.ps_frame.specs.Lawful.{FitsFrame};
+    ghost use Rattle.ps_frame.specs.Tables.{Frame};
+
+    ghost answer = { λ n f. Some f };
+
+    ghost declared = { λ n s. Some s };
+
+    ghost streams = { λ n. true };
+
+    ghost counted = { λ _. 1 };
+
+    fn count(&self) -> usize {
+        1
+    }
+
+    fn streamable(&self, _n: usize) -> bool {
+        true
+    }
+
+    fn schema(&self, alloc: Global, _n: usize, given: &Schema) -> Result<Schema, CallError> {
+        match given.try_clone(alloc) {
+            Ok(schema) => Ok(schema),
+            Err(_) => Err(CallError::OutOfMemory),
+        }
+    }
+
+    fn call(&self, _alloc: Global, _n: usize, df: DataFrame) -> Result<DataFrame, CallError> {
+        Ok(df)
+    }
+
+    ghost keeps_schema = { λ n f g e. ap (λ (o : Option Frame). option_map (λ (t : Frame). t.schema) o) e };
+
+    ghost keeps_rows = { λ n f g fits e. subst (λ (t : Frame). FitsFrame t) (same_Some f g e) fits };
+
+    ghost streams_empty = { λ n s streams declared. refl };
+
+    ghost streams_parts = { λ n f g streams same. refl };
+}
+
+fn root_table<L: Ledger>(
+    blank: Blank,
+    alloc: Global,
+    root: Node,
+    nodes: Arena<IR>,
+    exprs: &Arena<AExpr>,
+) -> PolarsResult<DataFrame>
+    requires name { blank.name ≡ L.name }
+    requires parts { blank.parts ≡ L.parts }
+    requires some { 0 < L.parts }
+{
+    let mut steps = Steps::<L>::new(blank);
+    let valid = validate(alloc, root, nodes, exprs, &Same, &mut steps)?;
+    node_table(alloc, valid.root(), &valid, exprs, &Same, 256)
+}
+
+/// The table of a document's plan, or why there is none.
+pub fn table_of(alloc: Global, document: &str) -> Result<PolarsResult<DataFrame>, Fail> {
+    let bytes = Vec::from_slice(alloc, document.as_bytes())?;
+    let Ok(Document { nodes, exprs, root }) = read_document(alloc, bytes) else {
+        return Err(Fail::from("no document"));
+    };
+    Ok(root_table::<Brand>(Blank::new(1), alloc, root, nodes, &exprs))
+}
+
+fn push_value(text: &mut String, value: &Value) -> Result<(), AllocError> {
+    match value {
+        Value::Null => Ok(()),
+        Value::Boolean(b) => write!(text, "{b}"),
+        Value::Int64(z) => write!(text, "{z}"),
+        Value::IdxSize(n) => write!(text, "{n}"),
+        Value::String(s) => text.push_str(s.as_str()),
+    }
+}
+
+fn push_cell(text: &mut String, column: &Column, row: usize) -> Result<(), AllocError> {
+    if row < column.len() {
+        push_value(text, column.value(row))?;
+    }
+    Ok(())
+}
+
+/// The names and then the rows of a table, a line for each; null is shown by nothing.
+fn lines(alloc: Global, df: &DataFrame) -> Result<String, AllocError> {
+    let mut text = String::new(alloc);
+    for i in 0..df.schema().len() {
+        if i > 0 {
+            text.push(',')?;
+        }
+        text.push_str(df.schema().name(i).as_str())?;
+    }
+    for row in 0..df.height() {
+        text.push('\n')?;
+        for (i, column) in df.get_columns().iter().enumerate() {
+            if i > 0 {
+                text.push(',')?;
+            }
+            push_cell(&mut text, column, row)?;
+        }
+    }
+    Ok(text)
+}
+
+// The texts, with commas between them.
+fn listed(alloc: Global, texts: &[&str]) -> Result<String, AllocError> {
+    let mut list = String::new(alloc);
+    for (i, text) in texts.iter().enumerate() {
+        if i > 0 {
+            list.push(',')?;
+        }
+        list.push_str(text)?;
+    }
+    Ok(list)
+}
+
+/// A document of these nodes over a scan of each table; the last node stands under a sink.
+pub fn document(
+    alloc: Global,
+    tables: &[&str],
+    exprs: &str,
+    nodes: &[&str],
+) -> Result<String, AllocError> {
+    let mut scans = String::new(alloc);
+    for i in 0..tables.len() {
+        write!(scans, "[\"scan\",{i},null],")?;
+    }
+    let root = tables.len().saturating_add(nodes.len());
+    let last = root.saturating_sub(1);
+    let tables = listed(alloc, tables)?;
+    let nodes = listed(alloc, nodes)?;
+    format!(in alloc;
+        "{{\"tables\":[{tables}],\"exprs\":[{exprs}],\"nodes\":[{scans}{nodes},[\"sink\",{last}]],\"root\":{root}}}"
+    )
+}
+
+/// What is answered of nodes over a scan of each table: the lines of the last one's table, or the error.
+pub fn run(alloc: Global, tables: &[&str], exprs: &str, nodes: &[&str]) -> Result<String, Fail> {
+    let document = document(alloc, tables, exprs, nodes)?;
+    answer(alloc, document.as_str())
+}
+
+/// What is answered of a document: its table's lines, or the error.
+pub fn answer(alloc: Global, document: &str) -> Result<String, Fail> {
+    match table_of(alloc, document)? {
+        Ok(df) => Ok(lines(alloc, &df)?),
+        Err(error) => Ok(format!(in alloc; "{error}")?),
+    }
+}
