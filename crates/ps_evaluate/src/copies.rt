@@ -1,12 +1,12 @@
 //! Copies of expressions from one arena in another.
-ghost use Rattle.std.specs.Prelude.{◌≡◌, IfOk, OnOk, Some};
+ghost use Rattle.std.specs.Prelude.{◌≡◌, Err, IfOk, OnErr, OnOk, Some};
 ghost use Rattle.ps_frame.specs.Trees.{AreComplete, IsComplete, IsExpression, aggregate_tree, entry_tree, tree_at, trees_of};
 ghost use Rattle.ps_evaluate.specs.Copies.{KeepsTrees};
 
 use ps_frame::expr::{AExpr, IRAggExpr, LiteralValue, entry};
 use ps_frame::items::Items;
 use pu_index::{Arena, Node};
-use pu_order::Result;
+use pu_order::{PolarsUtilsError, Result};
 use std::alloc::Global;
 
 /// Copies an expression, with all that it names, to the end of another arena, and gives its number there. What stood
@@ -23,6 +23,7 @@ pub fn copy_expr(
     requires { IsExpression from.now expr }
     ensures tree { IfOk result (λ n. tree_at into.new n ≡ tree_at from.now expr) }
     ensures kept { OnOk result (KeepsTrees into.old into.new) }
+    ensures memory { OnErr result (result ≡ Err PolarsUtilsError.OutOfMemory) }
 {
     match entry(expr, from) {
         AExpr::Column(name) => add(into, AExpr::Column(name.try_clone(alloc)?)),
@@ -170,6 +171,7 @@ fn copy_two(
     ensures first { IfOk result (λ n. tree_at into.new n.0 ≡ tree_at from.now first) }
     ensures second { IfOk result (λ n. tree_at into.new n.1 ≡ tree_at from.now second) }
     ensures kept { OnOk result (KeepsTrees into.old into.new) }
+    ensures memory { OnErr result (result ≡ Err PolarsUtilsError.OutOfMemory) }
 {
     let one = copy_expr(alloc, first, from, into)?;
     let other = copy_expr(alloc, second, from, into)?;
@@ -192,6 +194,7 @@ fn copy_three(
     ensures second { IfOk result (λ n. tree_at into.new n.1 ≡ tree_at from.now second) }
     ensures third { IfOk result (λ n. tree_at into.new n.2 ≡ tree_at from.now third) }
     ensures kept { OnOk result (KeepsTrees into.old into.new) }
+    ensures memory { OnErr result (result ≡ Err PolarsUtilsError.OutOfMemory) }
 {
     let (one, two) = copy_two(alloc, first, second, from, into)?;
     let three = copy_expr(alloc, third, from, into)?;
@@ -212,6 +215,7 @@ fn copy_keyed(
     ensures first { IfOk result (λ n. tree_at into.new n.0 ≡ tree_at from.now expr) }
     ensures keys { IfOk result (λ n. trees_of (tree_at into.new) n.1 ≡ trees_of (tree_at from.now) by.now) }
     ensures kept { OnOk result (KeepsTrees into.old into.new) }
+    ensures memory { OnErr result (result ≡ Err PolarsUtilsError.OutOfMemory) }
 {
     let keys = copy_all(alloc, by, from, into)?;
     let copy = copy_expr(alloc, expr, from, into)?;
@@ -228,6 +232,7 @@ fn copy_all(
     requires { AreComplete (trees_of (tree_at from.now) exprs.now) }
     ensures trees { IfOk result (λ ns. trees_of (tree_at into.new) ns ≡ trees_of (tree_at from.now) exprs.now) }
     ensures kept { OnOk result (KeepsTrees into.old into.new) }
+    ensures memory { OnErr result (result ≡ Err PolarsUtilsError.OutOfMemory) }
 {
     let mut copies = Vec::with_capacity(alloc, exprs.len())?;
     for expr in exprs {
@@ -246,6 +251,7 @@ fn copy_aggregate(
     requires { IsComplete (aggregate_tree (tree_at from.now) aggregate.now) }
     ensures tree { IfOk result (λ a. aggregate_tree (tree_at into.new) a ≡ aggregate_tree (tree_at from.now) aggregate.now) }
     ensures kept { OnOk result (KeepsTrees into.old into.new) }
+    ensures memory { OnErr result (result ≡ Err PolarsUtilsError.OutOfMemory) }
 {
     match aggregate {
         IRAggExpr::Min(input) => Ok(IRAggExpr::Min(copy_expr(alloc, *input, from, into)?)),
@@ -267,13 +273,15 @@ fn add(into: &mut Arena<AExpr>, entry: AExpr) -> Result<Node>
     requires { IsComplete (entry_tree (tree_at into.old) (Some entry)) }
     ensures tree { IfOk result (λ n. tree_at into.new n ≡ entry_tree (tree_at into.old) (Some entry)) }
     ensures kept { OnOk result (KeepsTrees into.old into.new) }
+    ensures memory { OnErr result (result ≡ Err PolarsUtilsError.OutOfMemory) }
 {
     let node = into.add(entry)?;
     Ok(node)
 }
 
 fn copy_literal(alloc: Global, literal: &LiteralValue) -> Result<LiteralValue>
-    ensures { IfOk result (λ l. l ≡ literal.now) }
+    ensures same { IfOk result (λ l. l ≡ literal.now) }
+    ensures memory { OnErr result (result ≡ Err PolarsUtilsError.OutOfMemory) }
 {
     match literal {
         LiteralValue::Null(dtype) => Ok(LiteralValue::Null(*dtype)),
@@ -285,7 +293,8 @@ fn copy_literal(alloc: Global, literal: &LiteralValue) -> Result<LiteralValue>
 }
 
 pub(crate) fn copy_flags(alloc: Global, flags: &[bool]) -> Result<Items<bool>>
-    ensures { IfOk result (λ copy. copy ≡ flags.now) }
+    ensures same { IfOk result (λ copy. copy ≡ flags.now) }
+    ensures memory { OnErr result (result ≡ Err PolarsUtilsError.OutOfMemory) }
 {
     let mut copies = Vec::with_capacity(alloc, flags.len())?;
     for flag in flags {
