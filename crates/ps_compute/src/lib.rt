@@ -6,5 +6,6 @@ pub mod casts;
 pub mod operators;
 pub mod order;
 pub mod selection;
+pub mod sort_key;
 #[cfg(test)]
 mod tests;

@@ -5,3 +5,4 @@ mod TenItems
 mod Members
 mod NoPlan
 mod NoNode
+mod Taken

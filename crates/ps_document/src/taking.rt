@@ -24,6 +24,9 @@ pub trait TakeJson<C>: Drop {
         ensures none { IfOk result (λ o. IfNone o ((x : Self) → ¬ is_json context.now x (view value))) };
 }
 
+/// After how many elements the room of those that were taken is given back.
+const RELEASED_ITEMS: usize = 65_536;
+
 /// The parts that an array holds. The JSON is let go on the way.
 ///
 /// `None` where the value is no array of such parts. Fails only for want of memory.
@@ -50,10 +53,15 @@ fn take_items<C, T: TakeJson<C>>(
     ensures none { IfOk result (λ o. IfNone o ((xs : List T) (ds : List Data) → AllZip (T.TakeJson.is_json context.now) xs ds → list (map view items.items) ≢ list ds)) }
 {
     let mut parts = Vec::with_capacity(alloc, items.len())?;
-    for item in items {
+    let mut left = items;
+    left.reverse();
+    'items: while let Some(item) = left.pop() {
         match T::take_json(alloc, context, item)? {
             Some(part) => parts.push(part)?,
             None => return Ok(None),
+        }
+        if left.len() % RELEASED_ITEMS == 0 {
+            left.shrink_to_fit();
         }
     }
     Ok(Some(parts))
