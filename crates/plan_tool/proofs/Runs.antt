@@ -4,13 +4,14 @@ use Rattle.std.specs.Prelude.{Option, Some, None, String, codes, map, string_byt
 use Rattle.std.specs.declared.alloc.Global.{Global}
 use Rattle.ps_frame.specs.Functions.{Functions}
 use Rattle.ps_frame.specs.declared.value.DataFault.{DataFault}
-use Rattle.ps_document.specs.Document.{IsDocument, IsJson}
+use Rattle.ps_document.proofs.OnePlan.{of_each_plan}
+use Rattle.ps_document.specs.Document.{IsDocument, IsDocumentOf, IsJson}
 use Rattle.ps_plan.specs.Meaning.{NodeMayFault, NothingBreaks}
 use Rattle.ps_plan.specs.Plans.{Plan}
 use Rattle.ps_plan.specs.Refusals.{IsValid}
 use Rattle.tool_words.proofs.OneCommand.{not-help, not-version}
 use Rattle.tool_words.specs.Words.{AreWords, IsHelp, IsRun, IsVersion}
-use Rattle.plan_tool.specs.Answers.{IsFaultLine, IsNoDocumentLine, IsPlanText, IsRefusalLine, IsUnanswered, OfEachPlan, OfPlan, line_of, status_of}
+use Rattle.plan_tool.specs.Answers.{IsFaultLine, IsNoDocumentLine, IsPlanText, IsRefusalLine, IsUnanswered, OfPlan, line_of, status_of}
 use Rattle.plan_tool.specs.Outside.{Appends, AppendsFront, IsLonger, Rose, TakesAll}
 use Rattle.plan_tool.specs.Runs.{IsEnd, IsToolText, Outside, Read, Words, help_text, max_document_bytes, version_text}
 use Rattle.plan_tool.specs.declared.outcome.Outcome.{Outcome}
@@ -22,6 +23,13 @@ json-of bytes d = record { is_text = d.is_document.is_text; json = d.is_document
 
 document-of : {P : Plan → Type 0} (bytes : List ℕ) → OfPlan bytes P → IsDocument bytes
 document-of bytes p = record { plan = p.0; is_document = p.1 }
+
+-- of each plan of the document
+abbrev OfEachPlan : List ℕ → (Plan → Type 0) → Type 0
+OfEachPlan bytes P = (plan : Plan) → IsDocumentOf plan bytes → P plan
+
+of-each : (P : Plan → Type 0) (bytes : List ℕ) → OfPlan bytes P → OfEachPlan bytes P
+of-each P bytes p = of_each_plan P p.0 bytes p.1 p.2
 
 too-many : (bytes : List ℕ) → max_document_bytes < length bytes → length bytes ≤ max_document_bytes → ⊥
 too-many bytes a b = omega (arith, a, b)
@@ -225,29 +233,35 @@ module _ (F : Functions) (words : Words) (s : Outside) where
   end-other outcome.TooLong e bytes is run short none = absurd (not-long s.left bytes is e.1 short)
   end-other outcome.OutOfMemory e bytes is run short none = inr (inr refl)
 
-  pub end-invalid : (o : Outcome) → IsEnd F words s o → (bytes : List ℕ) → s.left ≡ Some bytes → IsRun words → length bytes ≤ max_document_bytes → IsDocument bytes → OfEachPlan bytes (λ plan. IsValid F plan → ⊥) → (status_of o ≡ 4) ⊎ (status_of o ≡ 6) ⊎ (status_of o ≡ 9)
-  end-invalid outcome.Written e bytes is run short d bad = let p = (of-run run e.0 e.1 bytes is).1 in absurd (bad p.0 p.1 p.2.valid)
-  end-invalid outcome.Usage e bytes is run short d bad = absurd (e.0 (inl run))
-  end-invalid outcome.BadJson e bytes is run short d bad = absurd ((e.1 bytes is).1 (json-of bytes d))
-  end-invalid outcome.BadDocument e bytes is run short d bad = absurd ((e.1 bytes is).1.1 d)
-  end-invalid (outcome.Refused line) e bytes is run short d bad = inl refl
-  end-invalid (outcome.Faulted line) e bytes is run short d bad = let p = (e.1 bytes is).1 in absurd (bad p.0 p.1 p.2.valid)
-  end-invalid outcome.ReadFault e bytes is run short d bad = inr (inl refl)
-  end-invalid outcome.WriteFault e bytes is run short d bad = let p = (of-run run e.0 e.1 bytes is).1 in absurd (bad p.0 p.1 p.2.valid)
-  end-invalid outcome.TooLong e bytes is run short d bad = absurd (not-long s.left bytes is e.1 short)
-  end-invalid outcome.OutOfMemory e bytes is run short d bad = inr (inr refl)
+  each-invalid : (o : Outcome) → IsEnd F words s o → (bytes : List ℕ) → s.left ≡ Some bytes → IsRun words → length bytes ≤ max_document_bytes → IsDocument bytes → OfEachPlan bytes (λ plan. IsValid F plan → ⊥) → (status_of o ≡ 4) ⊎ (status_of o ≡ 6) ⊎ (status_of o ≡ 9)
+  each-invalid outcome.Written e bytes is run short d bad = let p = (of-run run e.0 e.1 bytes is).1 in absurd (bad p.0 p.1 p.2.valid)
+  each-invalid outcome.Usage e bytes is run short d bad = absurd (e.0 (inl run))
+  each-invalid outcome.BadJson e bytes is run short d bad = absurd ((e.1 bytes is).1 (json-of bytes d))
+  each-invalid outcome.BadDocument e bytes is run short d bad = absurd ((e.1 bytes is).1.1 d)
+  each-invalid (outcome.Refused line) e bytes is run short d bad = inl refl
+  each-invalid (outcome.Faulted line) e bytes is run short d bad = let p = (e.1 bytes is).1 in absurd (bad p.0 p.1 p.2.valid)
+  each-invalid outcome.ReadFault e bytes is run short d bad = inr (inl refl)
+  each-invalid outcome.WriteFault e bytes is run short d bad = let p = (of-run run e.0 e.1 bytes is).1 in absurd (bad p.0 p.1 p.2.valid)
+  each-invalid outcome.TooLong e bytes is run short d bad = absurd (not-long s.left bytes is e.1 short)
+  each-invalid outcome.OutOfMemory e bytes is run short d bad = inr (inr refl)
 
-  pub end-complete : (o : Outcome) → IsEnd F words s o → (bytes : List ℕ) → s.left ≡ Some bytes → IsRun words → length bytes ≤ max_document_bytes → IsDocument bytes → OfEachPlan bytes (λ plan. IsValid F plan × NothingBreaks F plan) → (Rose s.read_faults s.read_faults_after → ⊥) → (Rose s.write_faults s.write_faults_after → ⊥) → (status_of o ≡ 0) ⊎ (status_of o ≡ 9)
-  end-complete outcome.Written e bytes is run short d sound reads writes = inl refl
-  end-complete outcome.Usage e bytes is run short d sound reads writes = absurd (e.0 (inl run))
-  end-complete outcome.BadJson e bytes is run short d sound reads writes = absurd ((e.1 bytes is).1 (json-of bytes d))
-  end-complete outcome.BadDocument e bytes is run short d sound reads writes = absurd ((e.1 bytes is).1.1 d)
-  end-complete (outcome.Refused line) e bytes is run short d sound reads writes = let p = (e.1 bytes is).1 in absurd ((sound p.0 p.1).0 p.2.node p.2.refusal p.2.refused)
-  end-complete (outcome.Faulted line) e bytes is run short d sound reads writes = let p = (e.1 bytes is).1 in absurd (nothing-faults F p.0 (sound p.0 p.1).1 p.2.node p.2.fault p.2.may)
-  end-complete outcome.ReadFault e bytes is run short d sound reads writes = absurd (reads e.1)
-  end-complete outcome.WriteFault e bytes is run short d sound reads writes = absurd (writes e.3)
-  end-complete outcome.TooLong e bytes is run short d sound reads writes = absurd (not-long s.left bytes is e.1 short)
-  end-complete outcome.OutOfMemory e bytes is run short d sound reads writes = inr refl
+  each-complete : (o : Outcome) → IsEnd F words s o → (bytes : List ℕ) → s.left ≡ Some bytes → IsRun words → length bytes ≤ max_document_bytes → IsDocument bytes → OfEachPlan bytes (λ plan. IsValid F plan × NothingBreaks F plan) → (Rose s.read_faults s.read_faults_after → ⊥) → (Rose s.write_faults s.write_faults_after → ⊥) → (status_of o ≡ 0) ⊎ (status_of o ≡ 9)
+  each-complete outcome.Written e bytes is run short d sound reads writes = inl refl
+  each-complete outcome.Usage e bytes is run short d sound reads writes = absurd (e.0 (inl run))
+  each-complete outcome.BadJson e bytes is run short d sound reads writes = absurd ((e.1 bytes is).1 (json-of bytes d))
+  each-complete outcome.BadDocument e bytes is run short d sound reads writes = absurd ((e.1 bytes is).1.1 d)
+  each-complete (outcome.Refused line) e bytes is run short d sound reads writes = let p = (e.1 bytes is).1 in absurd ((sound p.0 p.1).0 p.2.node p.2.refusal p.2.refused)
+  each-complete (outcome.Faulted line) e bytes is run short d sound reads writes = let p = (e.1 bytes is).1 in absurd (nothing-faults F p.0 (sound p.0 p.1).1 p.2.node p.2.fault p.2.may)
+  each-complete outcome.ReadFault e bytes is run short d sound reads writes = absurd (reads e.1)
+  each-complete outcome.WriteFault e bytes is run short d sound reads writes = absurd (writes e.3)
+  each-complete outcome.TooLong e bytes is run short d sound reads writes = absurd (not-long s.left bytes is e.1 short)
+  each-complete outcome.OutOfMemory e bytes is run short d sound reads writes = inr refl
+
+  pub end-invalid : (o : Outcome) → IsEnd F words s o → (bytes : List ℕ) → s.left ≡ Some bytes → IsRun words → length bytes ≤ max_document_bytes → OfPlan bytes (λ plan. IsValid F plan → ⊥) → (status_of o ≡ 4) ⊎ (status_of o ≡ 6) ⊎ (status_of o ≡ 9)
+  end-invalid o e bytes is run short bad = each-invalid o e bytes is run short (document-of bytes bad) (of-each (λ plan. IsValid F plan → ⊥) bytes bad)
+
+  pub end-complete : (o : Outcome) → IsEnd F words s o → (bytes : List ℕ) → s.left ≡ Some bytes → IsRun words → length bytes ≤ max_document_bytes → OfPlan bytes (λ plan. IsValid F plan × NothingBreaks F plan) → (Rose s.read_faults s.read_faults_after → ⊥) → (Rose s.write_faults s.write_faults_after → ⊥) → (status_of o ≡ 0) ⊎ (status_of o ≡ 9)
+  end-complete o e bytes is run short sound reads writes = each-complete o e bytes is run short (document-of bytes sound) (of-each (λ plan. IsValid F plan × NothingBreaks F plan) bytes sound) reads writes
 
   -- a text that was written whole, or a front of it
   pub text-end : (text : List ℕ) → IsToolText F words s.left text → (IsRun words → Read s.left (λ _. s.left_after ≡ Some [])) → (o : Outcome) → (o ≡ outcome.Written) ⊎ (o ≡ outcome.WriteFault) → (o ≡ outcome.Written → Appends s.written text s.written_after)

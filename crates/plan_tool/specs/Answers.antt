@@ -39,13 +39,9 @@ pub record IsFaultLine (F : Functions) (plan : Plan) (line : List ℕ) : Type 0 
 abbrev pub IsNoDocumentLine : List ℕ → List ℕ → Type 0
 IsNoDocumentLine bytes line = ((¬ IsJson bytes) × (line ≡ codes "BadJson\n")) ⊎ (IsJson bytes × (¬ IsDocument bytes) × (line ≡ codes "BadDocument\n"))
 
--- of the plan of the document
+-- of the plan of the document, which has only one
 abbrev pub OfPlan : List ℕ → (Plan → Type 0) → Type 0
 OfPlan bytes P = (plan : Plan) × IsDocumentOf plan bytes × P plan
-
--- of each plan of the document
-abbrev pub OfEachPlan : List ℕ → (Plan → Type 0) → Type 0
-OfEachPlan bytes P = (plan : Plan) → IsDocumentOf plan bytes → P plan
 
 -- how a query over a plan may end without a text; want of memory needs no cause
 abbrev pub IsPlanOutcome : Functions → Plan → Outcome → Type 0

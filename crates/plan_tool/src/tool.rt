@@ -5,7 +5,7 @@ ghost use Rattle.ps_plan.specs.Meaning.{NothingBreaks};
 ghost use Rattle.ps_plan.specs.Refusals.{IsValid};
 ghost use Rattle.ps_tables.specs.Called.{functions_of};
 ghost use Rattle.tool_words.specs.Words.{AreWords, IsRun};
-ghost use Rattle.plan_tool.specs.Answers.{IsFaultLine, IsNoDocumentLine, IsRefusalLine, OfEachPlan, OfPlan, line_of, status_of};
+ghost use Rattle.plan_tool.specs.Answers.{IsFaultLine, IsNoDocumentLine, IsRefusalLine, OfPlan, line_of, status_of};
 ghost use Rattle.plan_tool.specs.Outside.{Appends, AppendsFront, IsLonger, Rose};
 ghost use Rattle.plan_tool.specs.Runs.{IsEnd, IsToolText, Read, help_text, version_text};
 
@@ -63,11 +63,11 @@ pub fn run_tool<R: Threads + Wait + Sync, F: Functions, G: Gate, S: Source, K: S
     // Where one of these causes stands, it or an earlier one is answered, or want of memory.
     ensures longer { (bytes : List ℕ) → S.left source.old ≡ Some bytes → IsRun words.now → MAX_DOCUMENT_BYTES < length bytes → (result.status ≡ 8) ⊎ (result.status ≡ 6) ⊎ (result.status ≡ 9) }
     ensures other { (bytes : List ℕ) → S.left source.old ≡ Some bytes → IsRun words.now → length bytes ≤ MAX_DOCUMENT_BYTES → ¬ IsDocument bytes → (result.status ≡ 3) ⊎ (result.status ≡ 6) ⊎ (result.status ≡ 9) }
-    ensures invalid { (bytes : List ℕ) → S.left source.old ≡ Some bytes → IsRun words.now → length bytes ≤ MAX_DOCUMENT_BYTES → IsDocument bytes → OfEachPlan bytes (λ plan. ¬ IsValid (functions_of (F.counted functions.now) F.streams F.answer F.declared) plan) → (result.status ≡ 4) ⊎ (result.status ≡ 6) ⊎ (result.status ≡ 9) }
+    ensures invalid { (bytes : List ℕ) → S.left source.old ≡ Some bytes → IsRun words.now → length bytes ≤ MAX_DOCUMENT_BYTES → OfPlan bytes (λ plan. ¬ IsValid (functions_of (F.counted functions.now) F.streams F.answer F.declared) plan) → (result.status ≡ 4) ⊎ (result.status ≡ 6) ⊎ (result.status ≡ 9) }
 
     // A document of a valid plan that nothing can break is answered.
-    ensures complete { (bytes : List ℕ) → S.left source.old ≡ Some bytes → IsRun words.now → length bytes ≤ MAX_DOCUMENT_BYTES → IsDocument bytes
-        → OfEachPlan bytes (λ plan. IsValid (functions_of (F.counted functions.now) F.streams F.answer F.declared) plan × NothingBreaks (functions_of (F.counted functions.now) F.streams F.answer F.declared) plan)
+    ensures complete { (bytes : List ℕ) → S.left source.old ≡ Some bytes → IsRun words.now → length bytes ≤ MAX_DOCUMENT_BYTES
+        → OfPlan bytes (λ plan. IsValid (functions_of (F.counted functions.now) F.streams F.answer F.declared) plan × NothingBreaks (functions_of (F.counted functions.now) F.streams F.answer F.declared) plan)
         → ¬ Rose (S.faults source.old) (S.faults source.new) → ¬ Rose (K.faults out.old) (K.faults out.new) → (result.status ≡ 0) ⊎ (result.status ≡ 9) }
 
     // What is written beside the text.

@@ -4,3 +4,4 @@ pub mod KeyOrder
 pub mod Numbers
 pub mod Places
 pub mod Texts
+pub mod SortKeys

@@ -42,10 +42,10 @@ pub returns-clause-other : goal.returns-clause-other
 returns-clause-other g c = λ bytes is run short none. subst (λ n. (n ≡ 3) ⊎ (n ≡ 6) ⊎ (n ≡ 9)) (sym c.status.ensures) (end-other _ _ _ c.outcome_of-outcome.result c.outcome_of-outcome.ensures bytes is run short none)
 
 pub returns-clause-invalid : goal.returns-clause-invalid
-returns-clause-invalid g c = λ bytes is run short d bad. subst (λ n. (n ≡ 4) ⊎ (n ≡ 6) ⊎ (n ≡ 9)) (sym c.status.ensures) (end-invalid _ _ _ c.outcome_of-outcome.result c.outcome_of-outcome.ensures bytes is run short d bad)
+returns-clause-invalid g c = λ bytes is run short bad. subst (λ n. (n ≡ 4) ⊎ (n ≡ 6) ⊎ (n ≡ 9)) (sym c.status.ensures) (end-invalid _ _ _ c.outcome_of-outcome.result c.outcome_of-outcome.ensures bytes is run short bad)
 
 pub returns-clause-complete : goal.returns-clause-complete
-returns-clause-complete g c = λ bytes is run short d sound reads writes. subst (λ n. (n ≡ 0) ⊎ (n ≡ 9)) (sym c.status.ensures) (end-complete _ _ _ c.outcome_of-outcome.result c.outcome_of-outcome.ensures bytes is run short d sound reads writes)
+returns-clause-complete g c = λ bytes is run short sound reads writes. subst (λ n. (n ≡ 0) ⊎ (n ≡ 9)) (sym c.status.ensures) (end-complete _ _ _ c.outcome_of-outcome.result c.outcome_of-outcome.ensures bytes is run short sound reads writes)
 
 pub returns-clause-silent : goal.returns-clause-silent
 returns-clause-silent g c = λ x y. end-silent _ _ _ c.outcome_of-outcome.result c.outcome_of-outcome.ensures (λ h. x (c.status.ensures ∙ h)) (λ h. y (c.status.ensures ∙ h))
