@@ -1,7 +1,12 @@
 mod Lists
+mod Told
+mod ToldExpr
+mod ToldNode
 mod FrameColumns
 mod CellColumns
+mod ToldTable
 mod TenItems
 mod Members
 mod NoPlan
 mod NoNode
+pub mod OnePlan
