@@ -12,7 +12,7 @@ use Rattle.ps_frame.specs.Values.{fits_kind}
 use Rattle.ps_frame.specs.declared.value.DataType.{DataType}
 use Rattle.ps_frame.specs.declared.value.Value.{Value}
 use Rattle.ps_frame.specs.declared.value.Value.TheVariants as val
-use Rattle.ps_document.proofs.FrameColumns.{kind-of_word}
+use Rattle.ps_document.proofs.Told.{kind-of_word}
 use Rattle.ps_document.specs.Columns.{IsColumn}
 use Rattle.ps_document.specs.Json.{list, list_of, text}
 use Rattle.ps_document.specs.Tables.{FitsItsWidth, IsCell, IsTable, cell_json, column_json, columns_from}
@@ -60,7 +60,7 @@ no_column d cells name k e none c is =
     none c.column.values (map cell_json c.column.values) (subst (λ l. AllZip (IsCell l) c.column.values (map cell_json c.column.values)) (sym (kind-of_word k c.column.kind kinds)) (are_cells c.column.kind c.column.values is.fits is.widths)) same
 
 -- the columns of a table from a place on, each with its name
-pub frame_columns : ℕ → Fields → List (List Value) → List NamedColumn
+abbrev pub frame_columns : ℕ → Fields → List (List Value) → List NamedColumn
 frame_columns i [] rows = []
 frame_columns i (f ∷ fs) rows = record { name = f.0; column = record { kind = f.1; values = values_at i rows } } ∷ frame_columns (suc i) fs rows
 
@@ -87,7 +87,6 @@ widths-column i [] h = tt
 widths-column i (row ∷ rows) h = (width-at i row h.0, widths-column i rows h.1)
 
 pub frame-zip : (i : ℕ) (fs : Fields) (rows : List (List Value)) → AllByRecursion (λ row. FitsKinds (kinds_of fs) (drop i row)) rows → AllByRecursion (AllByRecursion FitsItsWidth) rows → AllZip IsColumn (frame_columns i fs rows) (columns_from i fs rows)
-unfolding frame_columns
 frame-zip i [] rows f w = tt
 frame-zip i (g ∷ fs) rows f w =
     let parts = fits-column i g.1 (kinds_of fs) rows f in

@@ -7,7 +7,6 @@ use Rattle.std.specs.Cmp.{nat_eq_equiv}
 use Rattle.std.specs.Cmp.Lexicographic.{lists_equiv}
 use Rattle.std.specs.Str.{bytes_eq}
 use Rattle.serde_json.specs.Data.{Data}
-use Rattle.serde_json.specs.Find.{as_str}
 use Rattle.ps_frame.proofs.Lists.{both}
 use Rattle.ps_frame.proofs.Rows.{values_at-rows_of}
 use Rattle.ps_frame.specs.Frames.{AllOfHeight, HasOneHeight, IsFrame, column_values, frame_of, has_distinct_names, has_name, height_of, kinds_of}
@@ -16,10 +15,10 @@ use Rattle.ps_frame.specs.Tables.{Fields, Frame, beside, rows_of, values_at}
 use Rattle.ps_frame.specs.Typed.{Typed, all_fit}
 use Rattle.ps_frame.specs.Values.{fits_kind}
 use Rattle.ps_frame.specs.declared.value.DataType.{DataType}
-use Rattle.ps_frame.specs.declared.value.DataType.TheVariants as kind
 use Rattle.ps_frame.specs.declared.value.Value.{Value}
 use Rattle.ps_frame.specs.declared.value.Value.TheVariants as val
-use Rattle.ps_document.proofs.Lists.{list_length, list_same}
+use Rattle.ps_document.proofs.CellColumns.{frame_columns}
+use Rattle.ps_document.proofs.ToldTable.{columns-told, fields-of_columns}
 use Rattle.ps_document.specs.Columns.{IsColumn, field_of, fields_of, named_column_json, typed_of}
 use Rattle.ps_document.specs.Json.{list, list_of, text}
 use Rattle.ps_document.specs.Tables.{FitsItsWidth, IsTable, cell_json, column_json, columns_from}
@@ -106,69 +105,16 @@ made_table cs ds f schema columns z names s t made frame =
 no-such : {A : Type 0} → true ≡ false → A
 no-such e = cc
 
-holds_word : List ℕ → Option (List ℕ) → Bool
-holds_word w None = false
-holds_word w (Some v) = bytes_eq w v
+-- the columns of what is the JSON of a table have its fields and its height
+table-fields : (f : Frame) (cs : List NamedColumn) (ds : List Data) → AllZip IsColumn cs ds → IsTable f (list ds) → fields_of cs ≡ f.schema
+table-fields f cs ds z t = ap fields_of (columns-told f cs ds z t) ∙ fields-of_columns 0 f.schema f.rows
 
--- texts that differ
-apart : {A : Type 0} (v w : List ℕ) → bytes_eq v v ≡ true → bytes_eq v w ≡ false → text v ≡ text w → A
-unfolding holds_word
-apart v w same other e = let h : bytes_eq v v ≡ bytes_eq v w = ap (λ d. holds_word v (as_str d)) e in no-such (sym same ∙ h ∙ other)
+heights-of_columns : (i : ℕ) (fs : Fields) (rows : List (List Value)) → AllOfHeight (length rows) (typed_of (frame_columns i fs rows))
+heights-of_columns i [] rows = tt
+heights-of_columns i (f ∷ fs) rows = (length-map rows (λ row. get_or row i val.Null), heights-of_columns (suc i) fs rows)
 
--- a kind is told by its word
-pub kind-of_word : (k l : DataType) → text (kind_word k) ≡ text (kind_word l) → k ≡ l
-kind-of_word kind.Boolean kind.Boolean e = refl
-kind-of_word kind.Boolean kind.Int64 e = apart (kind_word kind.Boolean) (kind_word kind.Int64) refl refl e
-kind-of_word kind.Boolean kind.IdxSize e = apart (kind_word kind.Boolean) (kind_word kind.IdxSize) refl refl e
-kind-of_word kind.Boolean kind.String e = apart (kind_word kind.Boolean) (kind_word kind.String) refl refl e
-kind-of_word kind.Int64 kind.Boolean e = apart (kind_word kind.Int64) (kind_word kind.Boolean) refl refl e
-kind-of_word kind.Int64 kind.Int64 e = refl
-kind-of_word kind.Int64 kind.IdxSize e = apart (kind_word kind.Int64) (kind_word kind.IdxSize) refl refl e
-kind-of_word kind.Int64 kind.String e = apart (kind_word kind.Int64) (kind_word kind.String) refl refl e
-kind-of_word kind.IdxSize kind.Boolean e = apart (kind_word kind.IdxSize) (kind_word kind.Boolean) refl refl e
-kind-of_word kind.IdxSize kind.Int64 e = apart (kind_word kind.IdxSize) (kind_word kind.Int64) refl refl e
-kind-of_word kind.IdxSize kind.IdxSize e = refl
-kind-of_word kind.IdxSize kind.String e = apart (kind_word kind.IdxSize) (kind_word kind.String) refl refl e
-kind-of_word kind.String kind.Boolean e = apart (kind_word kind.String) (kind_word kind.Boolean) refl refl e
-kind-of_word kind.String kind.Int64 e = apart (kind_word kind.String) (kind_word kind.Int64) refl refl e
-kind-of_word kind.String kind.IdxSize e = apart (kind_word kind.String) (kind_word kind.IdxSize) refl refl e
-kind-of_word kind.String kind.String e = refl
-
--- the JSON of a column tells its name, its kind and how many cells it has
-same-column : (n m : List ℕ) (k l : DataType) (vs ws : List Value) → column_json n k vs ≡ column_json m l ws → (n ≡ m) × (k ≡ l) × (length vs ≡ length ws)
-same-column n m k l vs ws e =
-    let names : n ≡ m = cc in
-    let kinds : text (kind_word k) ≡ text (kind_word l) = cc in
-    let cells : list_of cell_json vs ≡ list_of cell_json ws = cc in
-    (names, kind-of_word k l kinds, sym (length-map vs cell_json) ∙ list_length (map cell_json vs) (map cell_json ws) cells ∙ length-map ws cell_json)
-
--- columns whose JSON is that of a table have its fields, and its height
-pub same-fields : (i : ℕ) (fs : Fields) (rows : List (List Value)) (cs : List NamedColumn) → columns_from i fs rows ≡ map named_column_json cs → fs ≡ fields_of cs
-same-fields i [] rows [] e = refl
-same-fields i [] rows (c ∷ cs) e = cc
-same-fields i (f ∷ fs) rows [] e = cc
-same-fields i (f ∷ fs) rows (c ∷ cs) e =
-    let first : column_json f.0 f.1 (values_at i rows) ≡ named_column_json c = cc in
-    let rest : columns_from (suc i) fs rows ≡ map named_column_json cs = cc in
-    let same = same-column f.0 c.name f.1 c.column.kind (values_at i rows) c.column.values first in
-    let here : f ≡ field_of c = ap (λ n. (n, f.1)) same.0 ∙ ap (λ k. (c.name, k)) same.1 in
-    ap (λ g. g ∷ fs) here ∙ ap (λ gs. field_of c ∷ gs) (same-fields (suc i) fs rows cs rest)
-
-pub same-heights : (i : ℕ) (fs : Fields) (rows : List (List Value)) (cs : List NamedColumn) → columns_from i fs rows ≡ map named_column_json cs → AllOfHeight (length rows) (typed_of cs)
-same-heights i [] rows [] e = tt
-same-heights i [] rows (c ∷ cs) e = cc
-same-heights i (f ∷ fs) rows [] e = cc
-same-heights i (f ∷ fs) rows (c ∷ cs) e =
-    let first : column_json f.0 f.1 (values_at i rows) ≡ named_column_json c = cc in
-    let rest : columns_from (suc i) fs rows ≡ map named_column_json cs = cc in
-    let same = same-column f.0 c.name f.1 c.column.kind (values_at i rows) c.column.values first in
-    (sym same.2 ∙ length-map rows (λ row. get_or row i val.Null), same-heights (suc i) fs rows cs rest)
-
--- the columns of what is the JSON of a table have names that differ, and one height
 pub table-names : (f : Frame) (cs : List NamedColumn) (ds : List Data) → AllZip IsColumn cs ds → IsTable f (list ds) → IsTrue (has_distinct_names (fields_of cs))
-table-names f cs ds z t =
-    let e : columns_from 0 f.schema f.rows ≡ map named_column_json cs = list_same (columns_from 0 f.schema f.rows) (map named_column_json cs) (sym t.json ∙ ap list (columns_json cs ds z)) in
-    rw (← same-fields 0 f.schema f.rows cs e) t.names
+table-names f cs ds z t = rw (table-fields f cs ds z t) t.names
 
 one-height : (cs : List Typed) (h : ℕ) → AllOfHeight h cs → AllOfHeight (height_of cs) cs
 one-height [] h a = tt
@@ -176,8 +122,8 @@ one-height (c ∷ cs) h a = (refl, subst (λ n. AllOfHeight n cs) (sym a.0) a.1)
 
 pub table-heights : (f : Frame) (cs : List NamedColumn) (ds : List Data) (schema : Fields) (columns : List Typed) → AllZip IsColumn cs ds → IsTable f (list ds) → schema ≡ fields_of cs → columns ≡ typed_of cs → HasOneHeight schema columns
 table-heights f cs ds schema columns z t se ce =
-    let e : columns_from 0 f.schema f.rows ≡ map named_column_json cs = list_same (columns_from 0 f.schema f.rows) (map named_column_json cs) (sym t.json ∙ ap list (columns_json cs ds z)) in
-    rw (se, ce) (length-map cs (λ (c : NamedColumn). c.column) ∙ sym (length-map cs field_of), one-height (typed_of cs) (length f.rows) (same-heights 0 f.schema f.rows cs e))
+    let heights = subst (λ bs. AllOfHeight (length f.rows) (typed_of bs)) (sym (columns-told f cs ds z t)) (heights-of_columns 0 f.schema f.rows) in
+    rw (se, ce) (length-map cs (λ (c : NamedColumn). c.column) ∙ sym (length-map cs field_of), one-height (typed_of cs) (length f.rows) heights)
 
 -- names that don't differ are those of no table
 pub no-table : (f : Frame) (cs : List NamedColumn) (ds : List Data) → IsFalse (has_distinct_names (fields_of cs)) → AllZip IsColumn cs ds → IsTable f (list ds) → ⊥

@@ -1,8 +1,13 @@
 mod Lists
+mod Told
+mod ToldExpr
+mod ToldNode
 mod FrameColumns
 mod CellColumns
+mod ToldTable
 mod TenItems
 mod Members
 mod NoPlan
 mod NoNode
 mod Taken
+pub mod OnePlan

@@ -26,12 +26,11 @@ pub list_length-map : {A : Type 0} (f : A → Data) (xs : List A) (es : List Dat
 list_length-map f xs es e = sym (length-map xs f) ∙ list_length (map f xs) es e
 
 -- the elements of a list of JSON
-elements_of : Items → List Data
+abbrev pub elements_of : Items → List Data
 elements_of no_items = []
 elements_of (item d ds) = d ∷ elements_of ds
 
-elements_of-items : (ds : List Data) → elements_of (items_of ds) ≡ ds
-unfolding elements_of
+pub elements_of-items : (ds : List Data) → elements_of (items_of ds) ≡ ds
 elements_of-items [] = refl
 elements_of-items (d ∷ ds) = ap (λ es. d ∷ es) (elements_of-items ds)
 

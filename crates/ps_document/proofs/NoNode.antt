@@ -69,11 +69,11 @@ no_listing_node d project select hstack sort group_by distinct tables (entry.Sli
 no_listing_node d project select hstack sort group_by distinct tables (entry.Sink i payload) p is = cc
 no_listing_node d project select hstack sort group_by distinct tables (entry.MapFunction i (call.User n)) p is = cc
 no_listing_node d project select hstack sort group_by distinct tables (entry.MapFunction i (call.RowIndex name offset)) p is = cc
-no_listing_node d project select hstack sort group_by distinct tables (entry.Sort i by cut options) p is = sort i by cut options is.stands is.json
+no_listing_node d project select hstack sort group_by distinct tables (entry.Sort i by cut options) p is = sort i by cut options is.stands.1 is.json
 no_listing_node d project select hstack sort group_by distinct tables (entry.Union inputs options) p is = cc
 no_listing_node d project select hstack sort group_by distinct tables (entry.HConcat inputs) p is = cc
 no_listing_node d project select hstack sort group_by distinct tables (entry.Cache i id hits) p is = cc
-no_listing_node d project select hstack sort group_by distinct tables (entry.GroupBy i keys aggs maintain options) p is = group_by i keys aggs maintain options is.stands is.json
+no_listing_node d project select hstack sort group_by distinct tables (entry.GroupBy i keys aggs maintain options) p is = group_by i keys aggs maintain options is.stands.2 is.json
 no_listing_node d project select hstack sort group_by distinct tables (entry.Join l r left_on right_on args) p is = cc
 no_listing_node d project select hstack sort group_by distinct tables (entry.Distinct i options) p is = distinct i options is.stands is.json
 no_listing_node d project select hstack sort group_by distinct tables (entry.LeftOut w) p is = cc
@@ -100,7 +100,7 @@ no_other_node d filter row_index union hconcat join tables (entry.Union inputs o
 no_other_node d filter row_index union hconcat join tables (entry.HConcat inputs) p is = hconcat inputs is.json
 no_other_node d filter row_index union hconcat join tables (entry.Cache i id hits) p is = cc
 no_other_node d filter row_index union hconcat join tables (entry.GroupBy i keys aggs maintain options) p is = cc
-no_other_node d filter row_index union hconcat join tables (entry.Join l r left_on right_on args) p is = join l r left_on right_on args is.stands is.json
+no_other_node d filter row_index union hconcat join tables (entry.Join l r left_on right_on args) p is = join l r left_on right_on args is.stands.2 is.json
 no_other_node d filter row_index union hconcat join tables (entry.Distinct i options) p is = cc
 no_other_node d filter row_index union hconcat join tables (entry.LeftOut w) p is = cc
 

@@ -1,5 +1,5 @@
 -- The JSON of a node.
-use Rattle.std.specs.Prelude.{ℕ, ◌≡◌, ◌<◌, ◌^◌, List, [], ◌∷◌, codes, Option, Some, None, IsTrue, FitsSigned, slice_get, ⊤}
+use Rattle.std.specs.Prelude.{ℕ, ◌≡◌, ◌<◌, ◌^◌, List, [], ◌∷◌, codes, Option, Some, None, All, IsTrue, FitsSigned, slice_get, ⊤}
 use Rattle.std.specs.Int.{w64}
 use Rattle.serde_json.specs.Data.{Data}
 use Rattle.ps_frame.specs.Lines.{what_name}
@@ -10,6 +10,7 @@ use Rattle.ps_plan.specs.declared.ir.IR.{IR}
 use Rattle.ps_plan.specs.declared.ir.IR.TheVariants as entry
 use Rattle.ps_plan.specs.declared.ir.FunctionIR.{FunctionIR}
 use Rattle.ps_plan.specs.declared.ir.FunctionIR.TheVariants as call
+use Rattle.ps_plan.specs.declared.ir.OutputName.TheVariants as output
 use Rattle.ps_document.specs.Expressions.{entry_number}
 use Rattle.ps_document.specs.Json.{count, list, list_of, or_null, text, truth, whole_number}
 use Rattle.ps_document.specs.Words.{is_left_out_kind, join_word, keep_word, sink_word, validation_word}
@@ -70,15 +71,27 @@ abbrev pub CallFits : FunctionIR → Type 0
 CallFits (call.RowIndex name offset) = OffsetFits offset
 CallFits (call.User n) = ⊤
 
--- a scan reads the table of that number; offsets fit their widths; only kinds that are left out stand as such
+-- a name that stands beside an expression is one of its own
+abbrev pub IsNamed : ExprIR → Type 0
+IsNamed e = e.output_name ≡ output.Alias (name_in e.output_name)
+
+-- a key and a predicate stand without a name: theirs is the empty one of a column
+abbrev pub IsUnnamed : ExprIR → Type 0
+IsUnnamed e = e.output_name ≡ output.ColumnLhs []
+
+-- A scan reads the table of that number. Expressions are named, keys and predicates unnamed, and a cache has no hits. Offsets fit their widths. Only kinds that are left out stand as such.
 abbrev pub CanStand : List Frame → ℕ → IR → Type 0
 CanStand tables table (entry.DataFrameScan df columns) = slice_get tables table ≡ Some df
+CanStand tables table (entry.Select i es) = All IsNamed es
+CanStand tables table (entry.HStack i es) = All IsNamed es
+CanStand tables table (entry.Filter i predicate) = IsUnnamed predicate
 CanStand tables table (entry.Slice i offset len) = FitsSigned w64 offset
 CanStand tables table (entry.MapFunction i function) = CallFits function
-CanStand tables table (entry.Sort i by cut options) = CutFits cut
+CanStand tables table (entry.Sort i by cut options) = All IsUnnamed by × CutFits cut
 CanStand tables table (entry.Union inputs options) = CutFits options.slice
-CanStand tables table (entry.GroupBy i keys aggs maintain options) = CutFits options.slice
-CanStand tables table (entry.Join l r left_on right_on args) = CutFits args.slice
+CanStand tables table (entry.Cache i id hits) = hits ≡ 0
+CanStand tables table (entry.GroupBy i keys aggs maintain options) = All IsNamed keys × All IsNamed aggs × CutFits options.slice
+CanStand tables table (entry.Join l r left_on right_on args) = All IsUnnamed left_on × All IsUnnamed right_on × CutFits args.slice
 CanStand tables table (entry.Distinct i o) = CutFits o.slice
 CanStand tables table (entry.LeftOut w) = IsTrue (is_left_out_kind w)
 CanStand tables table _ = ⊤

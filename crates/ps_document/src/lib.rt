@@ -4,6 +4,7 @@
 pub mod document;
 mod exprs;
 mod json;
+pub mod laws;
 mod nodes;
 mod options;
 mod parts;

@@ -1,5 +1,5 @@
 // Parts of a document, and lists of them.
-ghost use Rattle.std.specs.Prelude.{◌≡◌, ◌≢◌, ◌∷◌, [], List, IsTrue, IfOk, IfSome, IfNone, codes};
+ghost use Rattle.std.specs.Prelude.{◌≡◌, ◌≢◌, ◌∷◌, [], List, All, IsTrue, IfOk, IfSome, IfNone, codes};
 ghost use Rattle.serde_json.specs.View.{view};
 ghost use Rattle.ps_frame.specs.Lines.{what_name};
 ghost use Rattle.ps_document.specs.Json.{list, list_of, text};
@@ -23,11 +23,14 @@ pub trait FromJson<F>: Drop {
 
     ghost json: { Self → Data };
 
-    /// The part that a value is the JSON of.
+    ghost stands: { Self → Type 0 };
+
+    /// The part that a value is the JSON of. What the JSON leaves unsaid is as `stands` says.
     ///
     /// `None` where it is that of none. Fails only for want of memory.
     fn from_json(alloc: Global, value: &Value) -> Result<Option<Self>, AllocError>
         ensures some { IfOk result (λ o. IfSome o (λ x. view value.now ≡ json x)) }
+        ensures stands { IfOk result (λ o. IfSome o stands) }
         ensures none { IfOk result (λ o. IfNone o ((x : Self) → view value.now ≢ json x)) };
 }
 
@@ -48,6 +51,7 @@ pub fn list_from<F, T: FromJson<F>>(
     value: &Value,
 ) -> Result<Option<Items<T>>, AllocError>
     ensures some { IfOk result (λ o. IfSome o (λ xs. view value.now ≡ list_of T.FromJson.json xs)) }
+    ensures stand { IfOk result (λ o. IfSome o (All T.FromJson.stands)) }
     ensures none { IfOk result (λ o. IfNone o ((xs : List T) → view value.now ≢ list_of T.FromJson.json xs)) }
 {
     let Some(items) = elements(value) else {
@@ -64,9 +68,11 @@ pub fn list_from<F, T: FromJson<F>>(
 }
 
 impl FromJson<Plain> for Node {
+    ghost use Rattle.std.specs.Prelude.{⊤};
     ghost use Rattle.ps_document.specs.Expressions.{entry_number};
 
     ghost json = { entry_number };
+    ghost stands = { λ _. ⊤ };
 
     fn from_json(_alloc: Global, value: &Value) -> Result<Option<Node>, AllocError> {
         Ok(entry_of(value))
@@ -74,9 +80,11 @@ impl FromJson<Plain> for Node {
 }
 
 impl FromJson<Plain> for bool {
+    ghost use Rattle.std.specs.Prelude.{⊤};
     ghost use Rattle.ps_document.specs.Json.{truth};
 
     ghost json = { truth };
+    ghost stands = { λ _. ⊤ };
 
     fn from_json(_alloc: Global, value: &Value) -> Result<Option<bool>, AllocError> {
         Ok(truth_of(value))
@@ -84,9 +92,11 @@ impl FromJson<Plain> for bool {
 }
 
 impl FromJson<Plain> for PlSmallStr {
+    ghost use Rattle.std.specs.Prelude.{⊤};
     ghost use Rattle.ps_document.specs.Json.{text};
 
     ghost json = { text };
+    ghost stands = { λ _. ⊤ };
 
     fn from_json(alloc: Global, value: &Value) -> Result<Option<PlSmallStr>, AllocError> {
         let Some(text) = text_of(value) else {
@@ -100,9 +110,10 @@ impl FromJson<Plain> for PlSmallStr {
 }
 
 impl FromJson<Named> for ExprIR {
-    ghost use Rattle.ps_document.specs.Nodes.{named_json};
+    ghost use Rattle.ps_document.specs.Nodes.{IsNamed, named_json};
 
     ghost json = { named_json };
+    ghost stands = { IsNamed };
 
     fn from_json(alloc: Global, value: &Value) -> Result<Option<ExprIR>, AllocError> {
         let Some((name, node)) = two(value) else {
@@ -120,9 +131,10 @@ impl FromJson<Named> for ExprIR {
 }
 
 impl FromJson<Key> for ExprIR {
-    ghost use Rattle.ps_document.specs.Nodes.{key_json};
+    ghost use Rattle.ps_document.specs.Nodes.{IsUnnamed, key_json};
 
     ghost json = { key_json };
+    ghost stands = { IsUnnamed };
 
     fn from_json(alloc: Global, value: &Value) -> Result<Option<ExprIR>, AllocError> {
         let Some(node) = entry_of(value) else {
