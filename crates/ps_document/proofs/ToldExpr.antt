@@ -24,16 +24,16 @@ abbrev pub what_in : Data → What
 what_in d =
     look_up (text_in d)
     (
-      (codes "NegativeOffset", what.NegativeOffset) ∷ (codes "Validation", what.Validation) ∷ (codes "NoColumns", what.NoColumns)
-      ∷ (codes "LiteralAggregate", what.LiteralAggregate) ∷ (codes "RootNotSink", what.RootNotSink) ∷ (codes "FileSink", what.FileSink)
-      ∷ (codes "Alias", what.Alias) ∷ (codes "Explode", what.Explode) ∷ (codes "Implode", what.Implode)
-      ∷ (codes "AggGroups", what.AggGroups) ∷ (codes "Window", what.Window) ∷ (codes "AnonymousFunction", what.AnonymousFunction)
-      ∷ (codes "SeriesLiteral", what.SeriesLiteral) ∷ (codes "FloatLiteral", what.FloatLiteral) ∷ (codes "Mean", what.Mean)
-      ∷ (codes "Var", what.Var) ∷ (codes "Std", what.Std) ∷ (codes "Median", what.Median) ∷ (codes "Quantile", what.Quantile)
-      ∷ (codes "TrueDivide", what.TrueDivide) ∷ (codes "Scan", what.Scan) ∷ (codes "PythonScan", what.PythonScan)
-      ∷ (codes "ExtContext", what.ExtContext) ∷ (codes "Invalid", what.Invalid) ∷ (codes "MergeSorted", what.MergeSorted)
-      ∷ (codes "OtherFunction", what.OtherFunction) ∷ (codes "AsOfJoin", what.AsOfJoin) ∷ (codes "InequalityJoin", what.InequalityJoin)
-      ∷ (codes "GroupByApply", what.GroupByApply) ∷ (codes "DynamicGroupBy", what.DynamicGroupBy) ∷ []
+    (codes "NegativeOffset", what.NegativeOffset) ∷ (codes "Validation", what.Validation) ∷ (codes "NoColumns", what.NoColumns)
+    ∷ (codes "LiteralAggregate", what.LiteralAggregate) ∷ (codes "RootNotSink", what.RootNotSink) ∷ (codes "FileSink", what.FileSink)
+    ∷ (codes "Alias", what.Alias) ∷ (codes "Explode", what.Explode) ∷ (codes "Implode", what.Implode)
+    ∷ (codes "AggGroups", what.AggGroups) ∷ (codes "Window", what.Window) ∷ (codes "AnonymousFunction", what.AnonymousFunction)
+    ∷ (codes "SeriesLiteral", what.SeriesLiteral) ∷ (codes "FloatLiteral", what.FloatLiteral) ∷ (codes "Mean", what.Mean)
+    ∷ (codes "Var", what.Var) ∷ (codes "Std", what.Std) ∷ (codes "Median", what.Median) ∷ (codes "Quantile", what.Quantile)
+    ∷ (codes "TrueDivide", what.TrueDivide) ∷ (codes "Scan", what.Scan) ∷ (codes "PythonScan", what.PythonScan)
+    ∷ (codes "ExtContext", what.ExtContext) ∷ (codes "Invalid", what.Invalid) ∷ (codes "MergeSorted", what.MergeSorted)
+    ∷ (codes "OtherFunction", what.OtherFunction) ∷ (codes "AsOfJoin", what.AsOfJoin) ∷ (codes "InequalityJoin", what.InequalityJoin)
+    ∷ (codes "GroupByApply", what.GroupByApply) ∷ (codes "DynamicGroupBy", what.DynamicGroupBy) ∷ []
     )
     what.RollingGroupBy
 
@@ -75,23 +75,23 @@ abbrev expr_of : List ℕ → Data → Data → Data → Data → AExpr
 expr_of w a b c d =
     look_up w
     (
-      (codes "col", expr.Column (text_in a)) ∷ (codes "null", expr.Literal (lit.Null (kind_in a))) ∷ (codes "bool", expr.Literal (lit.Boolean (truth_in a)))
-      ∷ (codes "int", expr.Literal (lit.Int64 (whole_number_in a))) ∷ (codes "idx", expr.Literal (lit.IdxSize (number_in a))) ∷ (codes "str", expr.Literal (lit.String (text_in a)))
-      ∷ (codes "eq", expr.BinaryExpr (entry_in a) op.Eq (entry_in b)) ∷ (codes "ne", expr.BinaryExpr (entry_in a) op.NotEq (entry_in b))
-      ∷ (codes "lt", expr.BinaryExpr (entry_in a) op.Lt (entry_in b)) ∷ (codes "le", expr.BinaryExpr (entry_in a) op.LtEq (entry_in b))
-      ∷ (codes "gt", expr.BinaryExpr (entry_in a) op.Gt (entry_in b)) ∷ (codes "ge", expr.BinaryExpr (entry_in a) op.GtEq (entry_in b))
-      ∷ (codes "add", expr.BinaryExpr (entry_in a) op.Plus (entry_in b)) ∷ (codes "sub", expr.BinaryExpr (entry_in a) op.Minus (entry_in b))
-      ∷ (codes "mul", expr.BinaryExpr (entry_in a) op.Multiply (entry_in b)) ∷ (codes "floordiv", expr.BinaryExpr (entry_in a) op.FloorDivide (entry_in b))
-      ∷ (codes "mod", expr.BinaryExpr (entry_in a) op.Modulus (entry_in b)) ∷ (codes "and", expr.BinaryExpr (entry_in a) op.And (entry_in b))
-      ∷ (codes "or", expr.BinaryExpr (entry_in a) op.Or (entry_in b)) ∷ (codes "cast", expr.Cast (entry_in a) (kind_in b) (truth_in c))
-      ∷ (codes "sort", expr.Sort (entry_in a) (truth_in b) (truth_in c)) ∷ (codes "sort_by", expr.SortBy (entry_in a) (list_in entry_in b) (list_in truth_in c) (list_in truth_in d))
-      ∷ (codes "gather", expr.Gather (entry_in a) (entry_in b) (truth_in c)) ∷ (codes "filter", expr.Filter (entry_in a) (entry_in b))
-      ∷ (codes "min", expr.Agg (agg.Min (entry_in a))) ∷ (codes "max", expr.Agg (agg.Max (entry_in a))) ∷ (codes "first", expr.Agg (agg.First (entry_in a)))
-      ∷ (codes "last", expr.Agg (agg.Last (entry_in a))) ∷ (codes "sum", expr.Agg (agg.Sum (entry_in a))) ∷ (codes "n_unique", expr.Agg (agg.NUnique (entry_in a)))
-      ∷ (codes "count", expr.Agg (agg.Count (entry_in a) (truth_in b))) ∷ (codes "ternary", expr.Ternary (entry_in a) (entry_in b) (entry_in c))
-      ∷ (codes "not", expr.Function (entry_in a) fun.Not) ∷ (codes "is_null", expr.Function (entry_in a) fun.IsNull)
-      ∷ (codes "is_not_null", expr.Function (entry_in a) fun.IsNotNull) ∷ (codes "reverse", expr.Function (entry_in a) fun.Reverse)
-      ∷ (codes "slice", expr.Slice (entry_in a) (entry_in b) (entry_in c)) ∷ (codes "len", expr.Len) ∷ []
+    (codes "col", expr.Column (text_in a)) ∷ (codes "null", expr.Literal (lit.Null (kind_in a))) ∷ (codes "bool", expr.Literal (lit.Boolean (truth_in a)))
+    ∷ (codes "int", expr.Literal (lit.Int64 (whole_number_in a))) ∷ (codes "idx", expr.Literal (lit.IdxSize (number_in a))) ∷ (codes "str", expr.Literal (lit.String (text_in a)))
+    ∷ (codes "eq", expr.BinaryExpr (entry_in a) op.Eq (entry_in b)) ∷ (codes "ne", expr.BinaryExpr (entry_in a) op.NotEq (entry_in b))
+    ∷ (codes "lt", expr.BinaryExpr (entry_in a) op.Lt (entry_in b)) ∷ (codes "le", expr.BinaryExpr (entry_in a) op.LtEq (entry_in b))
+    ∷ (codes "gt", expr.BinaryExpr (entry_in a) op.Gt (entry_in b)) ∷ (codes "ge", expr.BinaryExpr (entry_in a) op.GtEq (entry_in b))
+    ∷ (codes "add", expr.BinaryExpr (entry_in a) op.Plus (entry_in b)) ∷ (codes "sub", expr.BinaryExpr (entry_in a) op.Minus (entry_in b))
+    ∷ (codes "mul", expr.BinaryExpr (entry_in a) op.Multiply (entry_in b)) ∷ (codes "floordiv", expr.BinaryExpr (entry_in a) op.FloorDivide (entry_in b))
+    ∷ (codes "mod", expr.BinaryExpr (entry_in a) op.Modulus (entry_in b)) ∷ (codes "and", expr.BinaryExpr (entry_in a) op.And (entry_in b))
+    ∷ (codes "or", expr.BinaryExpr (entry_in a) op.Or (entry_in b)) ∷ (codes "cast", expr.Cast (entry_in a) (kind_in b) (truth_in c))
+    ∷ (codes "sort", expr.Sort (entry_in a) (truth_in b) (truth_in c)) ∷ (codes "sort_by", expr.SortBy (entry_in a) (list_in entry_in b) (list_in truth_in c) (list_in truth_in d))
+    ∷ (codes "gather", expr.Gather (entry_in a) (entry_in b) (truth_in c)) ∷ (codes "filter", expr.Filter (entry_in a) (entry_in b))
+    ∷ (codes "min", expr.Agg (agg.Min (entry_in a))) ∷ (codes "max", expr.Agg (agg.Max (entry_in a))) ∷ (codes "first", expr.Agg (agg.First (entry_in a)))
+    ∷ (codes "last", expr.Agg (agg.Last (entry_in a))) ∷ (codes "sum", expr.Agg (agg.Sum (entry_in a))) ∷ (codes "n_unique", expr.Agg (agg.NUnique (entry_in a)))
+    ∷ (codes "count", expr.Agg (agg.Count (entry_in a) (truth_in b))) ∷ (codes "ternary", expr.Ternary (entry_in a) (entry_in b) (entry_in c))
+    ∷ (codes "not", expr.Function (entry_in a) fun.Not) ∷ (codes "is_null", expr.Function (entry_in a) fun.IsNull)
+    ∷ (codes "is_not_null", expr.Function (entry_in a) fun.IsNotNull) ∷ (codes "reverse", expr.Function (entry_in a) fun.Reverse)
+    ∷ (codes "slice", expr.Slice (entry_in a) (entry_in b) (entry_in c)) ∷ (codes "len", expr.Len) ∷ []
     )
     (expr.LeftOut (what_in a))
 

@@ -24,7 +24,7 @@ use Rattle.ps_document.proofs.ToldExpr.{what-told, what_in}
 use Rattle.ps_document.specs.Expressions.{entry_number}
 use Rattle.ps_document.specs.Json.{count, list_of, or_null, text, truth}
 use Rattle.ps_document.specs.Nodes.{CanStand, IsNamed, IsNode, IsUnnamed, cut_json, function_json, key_json, named_json, names_json, node_json}
-use Rattle.ps_document.specs.Words.{join_word, keep_word, sink_word, validation_word}
+use Rattle.ps_document.specs.Words.{join_word, keep_word, validation_word}
 
 abbrev named_in : Data → ExprIR
 named_in d = record { node = entry_in (item_in 1 d); output_name = output.Alias (text_in (item_in 0 d)) }
@@ -103,21 +103,21 @@ module _ (tables : List Frame) where
   node_of w a b c d e f g h i =
       look_up w
       (
-        (codes "scan", entry.DataFrameScan (unwrap_or (slice_get tables (number_in a)) no_frame) (names_in b)) ∷ (codes "project", entry.SimpleProjection (entry_in a) (list_in text_in b))
-        ∷ (codes "select", entry.Select (entry_in a) (list_in named_in b)) ∷ (codes "hstack", entry.HStack (entry_in a) (list_in named_in b))
-        ∷ (codes "filter", entry.Filter (entry_in a) (key_in b)) ∷ (codes "slice", entry.Slice (entry_in a) (whole_number_in b) (number_in c))
-        ∷ (codes "sink", entry.Sink (entry_in a) sink.Memory) ∷ (codes "file_sink", entry.Sink (entry_in a) sink.File)
-        ∷ (codes "row_index", entry.MapFunction (entry_in a) (call.RowIndex (text_in b) (option_in number_in c))) ∷ (codes "map", entry.MapFunction (entry_in a) (call.User (number_in b)))
-        ∷ (codes "sort", entry.Sort (entry_in a) (list_in key_in b) (cut_in e) (record { descending = list_in truth_in c; nulls_last = list_in truth_in d }))
-        ∷ (codes "union", entry.Union (list_in entry_in a) (record { slice = cut_in b })) ∷ (codes "hconcat", entry.HConcat (list_in entry_in a))
-        ∷ (codes "cache", entry.Cache (entry_in a) (number_in b) 0)
-        ∷ (codes "group_by", entry.GroupBy (entry_in a) (list_in named_in b) (list_in named_in c) (truth_in d) (record { slice = cut_in e }))
-        ∷ (
-          codes "join",
-          entry.Join (entry_in a) (entry_in b) (list_in key_in d) (list_in key_in e)
-          (record { how = join_in c; suffix = option_in text_in f; join_nulls = truth_in g; validation = validation_in h; slice = cut_in i })
-        )
-        ∷ (codes "distinct", entry.Distinct (entry_in a) (record { subset = names_in b; maintain_order = truth_in c; keep_strategy = keep_in d; slice = cut_in e })) ∷ []
+      (codes "scan", entry.DataFrameScan (unwrap_or (slice_get tables (number_in a)) no_frame) (names_in b)) ∷ (codes "project", entry.SimpleProjection (entry_in a) (list_in text_in b))
+      ∷ (codes "select", entry.Select (entry_in a) (list_in named_in b)) ∷ (codes "hstack", entry.HStack (entry_in a) (list_in named_in b))
+      ∷ (codes "filter", entry.Filter (entry_in a) (key_in b)) ∷ (codes "slice", entry.Slice (entry_in a) (whole_number_in b) (number_in c))
+      ∷ (codes "sink", entry.Sink (entry_in a) sink.Memory) ∷ (codes "file_sink", entry.Sink (entry_in a) sink.File)
+      ∷ (codes "row_index", entry.MapFunction (entry_in a) (call.RowIndex (text_in b) (option_in number_in c))) ∷ (codes "map", entry.MapFunction (entry_in a) (call.User (number_in b)))
+      ∷ (codes "sort", entry.Sort (entry_in a) (list_in key_in b) (cut_in e) (record { descending = list_in truth_in c; nulls_last = list_in truth_in d }))
+      ∷ (codes "union", entry.Union (list_in entry_in a) (record { slice = cut_in b })) ∷ (codes "hconcat", entry.HConcat (list_in entry_in a))
+      ∷ (codes "cache", entry.Cache (entry_in a) (number_in b) 0)
+      ∷ (codes "group_by", entry.GroupBy (entry_in a) (list_in named_in b) (list_in named_in c) (truth_in d) (record { slice = cut_in e }))
+      ∷ (
+        codes "join",
+        entry.Join (entry_in a) (entry_in b) (list_in key_in d) (list_in key_in e)
+            (record { how = join_in c; suffix = option_in text_in f; join_nulls = truth_in g; validation = validation_in h; slice = cut_in i }),
+      )
+      ∷ (codes "distinct", entry.Distinct (entry_in a) (record { subset = names_in b; maintain_order = truth_in c; keep_strategy = keep_in d; slice = cut_in e })) ∷ []
       )
       (entry.LeftOut (what_in a))
 

@@ -72,6 +72,7 @@ impl FromJson<Plain> for Node {
     ghost use Rattle.ps_document.specs.Expressions.{entry_number};
 
     ghost json = { entry_number };
+
     ghost stands = { λ _. ⊤ };
 
     fn from_json(_alloc: Global, value: &Value) -> Result<Option<Node>, AllocError> {
@@ -84,6 +85,7 @@ impl FromJson<Plain> for bool {
     ghost use Rattle.ps_document.specs.Json.{truth};
 
     ghost json = { truth };
+
     ghost stands = { λ _. ⊤ };
 
     fn from_json(_alloc: Global, value: &Value) -> Result<Option<bool>, AllocError> {
@@ -96,6 +98,7 @@ impl FromJson<Plain> for PlSmallStr {
     ghost use Rattle.ps_document.specs.Json.{text};
 
     ghost json = { text };
+
     ghost stands = { λ _. ⊤ };
 
     fn from_json(alloc: Global, value: &Value) -> Result<Option<PlSmallStr>, AllocError> {
@@ -113,6 +116,7 @@ impl FromJson<Named> for ExprIR {
     ghost use Rattle.ps_document.specs.Nodes.{IsNamed, named_json};
 
     ghost json = { named_json };
+
     ghost stands = { IsNamed };
 
     fn from_json(alloc: Global, value: &Value) -> Result<Option<ExprIR>, AllocError> {
@@ -134,6 +138,7 @@ impl FromJson<Key> for ExprIR {
     ghost use Rattle.ps_document.specs.Nodes.{IsUnnamed, key_json};
 
     ghost json = { key_json };
+
     ghost stands = { IsUnnamed };
 
     fn from_json(alloc: Global, value: &Value) -> Result<Option<ExprIR>, AllocError> {
