@@ -1,6 +1,6 @@
 -- Tables as columns with names, and back.
 use Rattle.std.proofs.Common.{◌≡◌, ℕ, zero, suc, ◌+◌, ◌<◌, List, [], ◌∷◌, ◌++◌, length, get_or, replicate, Bool, true, false, refl, ap, sym, ◌∙◌, arith, subst}
-use Rattle.std.specs.Prelude.{map, IsTrue, IsFalse, not, ◌&&◌, ◌||◌, Option, Some, None}
+use Rattle.std.specs.Prelude.{map, IsTrue, IsFalse, not, ◌&&◌, ◌||◌}
 use Rattle.std.specs.List.{AllByRecursion, AllZip}
 use Rattle.std.proofs.lemmas.List.{length-map}
 use Rattle.std.specs.Cmp.{nat_eq_equiv}
@@ -20,9 +20,8 @@ use Rattle.ps_frame.specs.declared.value.Value.TheVariants as val
 use Rattle.ps_document.proofs.CellColumns.{frame_columns}
 use Rattle.ps_document.proofs.ToldTable.{columns-told, fields-of_columns}
 use Rattle.ps_document.specs.Columns.{IsColumn, field_of, fields_of, named_column_json, typed_of}
-use Rattle.ps_document.specs.Json.{list, list_of, text}
-use Rattle.ps_document.specs.Tables.{FitsItsWidth, IsTable, cell_json, column_json, columns_from}
-use Rattle.ps_document.specs.Words.{kind_word}
+use Rattle.ps_document.specs.Json.{list}
+use Rattle.ps_document.specs.Tables.{FitsItsWidth, IsTable, column_json, columns_from}
 use Rattle.ps_document.specs.declared.tables.NamedColumn.{NamedColumn}
 
 -- the JSON of columns that are read is the JSON of the columns

@@ -1,6 +1,6 @@
 -- The members of a document.
 use Rattle.std.proofs.Common.{◌≡◌, ℕ, List, [], ◌∷◌, length, refl, arith}
-use Rattle.std.specs.Prelude.{map, String, ◌↔◌}
+use Rattle.std.specs.Prelude.{String, ◌↔◌}
 use Rattle.std.specs.declared.alloc.Global.{Global}
 use Rattle.serde_json.specs.Data.{Data, Members, member, no_members, object}
 use Rattle.serde_json.specs.View.{members_view}

@@ -2,7 +2,6 @@
 use Rattle.std.proofs.Common.{◌≡◌, ◌≢◌, ◌∷◌, [], ℕ, ℤ, List, Bool, refl}
 use Rattle.std.specs.Prelude.{IsTrue, FitsSigned, Option, Some, codes, slice_get}
 use Rattle.std.specs.Int.{w64}
-use Rattle.std.specs.declared.alloc.Global.{Global}
 use Rattle.serde_json.specs.Data.{Data}
 use Rattle.pu_index.specs.declared.arena.Node.{Node}
 use Rattle.ps_frame.specs.Lines.{what_name}

@@ -24,7 +24,7 @@ use Rattle.ps_document.proofs.ToldExpr.{what-told, what_in}
 use Rattle.ps_document.specs.Expressions.{entry_number}
 use Rattle.ps_document.specs.Json.{count, list_of, or_null, text, truth}
 use Rattle.ps_document.specs.Nodes.{CanStand, IsNamed, IsNode, IsUnnamed, cut_json, function_json, key_json, named_json, names_json, node_json}
-use Rattle.ps_document.specs.Words.{join_word, keep_word, sink_word, validation_word}
+use Rattle.ps_document.specs.Words.{join_word, keep_word, validation_word}
 
 abbrev named_in : Data → ExprIR
 named_in d = record { node = entry_in (item_in 1 d); output_name = output.Alias (text_in (item_in 0 d)) }
@@ -94,6 +94,18 @@ keep-told keep.Last = refl
 keep-told keep.Any = refl
 keep-told keep.None = refl
 
+named-list : (es : List ExprIR) → All IsNamed es → list_in named_in (list_of named_json es) ≡ es
+named-list es all = list-told_where named_json named_in IsNamed named-told es all
+
+key-list : (es : List ExprIR) → All IsUnnamed es → list_in key_in (list_of key_json es) ≡ es
+key-list es all = list-told_where key_json key_in IsUnnamed key-told es all
+
+entry-list : (ns : List Node) → list_in entry_in (list_of entry_number ns) ≡ ns
+entry-list ns = list-told entry_number entry_in (λ n. refl) ns
+
+truth-list : (bs : List Bool) → list_in truth_in (list_of truth bs) ≡ bs
+truth-list bs = list-told truth truth_in (λ b. refl) bs
+
 abbrev no_frame : Frame
 no_frame = record { schema = []; rows = [] }
 
@@ -123,18 +135,6 @@ module _ (tables : List Frame) where
 
   abbrev pub node_in : Data → IR
   node_in d = node_of (text_in (item_in 0 d)) (item_in 1 d) (item_in 2 d) (item_in 3 d) (item_in 4 d) (item_in 5 d) (item_in 6 d) (item_in 7 d) (item_in 8 d) (item_in 9 d)
-
-  named-list : (es : List ExprIR) → All IsNamed es → list_in named_in (list_of named_json es) ≡ es
-  named-list es all = list-told_where named_json named_in IsNamed named-told es all
-
-  key-list : (es : List ExprIR) → All IsUnnamed es → list_in key_in (list_of key_json es) ≡ es
-  key-list es all = list-told_where key_json key_in IsUnnamed key-told es all
-
-  entry-list : (ns : List Node) → list_in entry_in (list_of entry_number ns) ≡ ns
-  entry-list ns = list-told entry_number entry_in (λ n. refl) ns
-
-  truth-list : (bs : List Bool) → list_in truth_in (list_of truth bs) ≡ bs
-  truth-list bs = list-told truth truth_in (λ b. refl) bs
 
   sink-told : (i : Node) (payload : SinkType) → node_in (node_json 0 (entry.Sink i payload)) ≡ entry.Sink i payload
   sink-told i sink.Memory = refl

@@ -5,7 +5,7 @@ use Rattle.std.specs.List.{AllByRecursion, AllZip}
 use Rattle.std.proofs.lemmas.List.{length-map, map-id}
 use Rattle.serde_json.specs.Data.{Data, null}
 use Rattle.ps_frame.proofs.Lists.{both}
-use Rattle.ps_frame.specs.Frames.{column_values, frame_of, height_of, kinds_of}
+use Rattle.ps_frame.specs.Frames.{column_values, frame_of, kinds_of}
 use Rattle.ps_frame.specs.Lawful.{FitsKinds}
 use Rattle.ps_frame.specs.Tables.{Fields, Frame, beside, rows_of, values_at}
 use Rattle.ps_frame.specs.Typed.{all_fit}
@@ -17,7 +17,7 @@ use Rattle.ps_frame.specs.declared.value.Value.TheVariants as val
 use Rattle.ps_document.proofs.CellColumns.{frame-zip, frame_columns}
 use Rattle.ps_document.proofs.Lists.{elements_of-items, list_same}
 use Rattle.ps_document.proofs.Told.{all-told, item_in, items_in, kind-told, kind_in, number_in, text_in, truth_in, whole_number-told, whole_number_in}
-use Rattle.ps_document.specs.Columns.{IsColumn, fields_of, named_column_json, typed_of}
+use Rattle.ps_document.specs.Columns.{IsColumn, fields_of, typed_of}
 use Rattle.ps_document.specs.Json.{list}
 use Rattle.ps_document.specs.Tables.{IsTable, cell_json, columns_from}
 use Rattle.ps_document.specs.declared.tables.NamedColumn.{NamedColumn}
