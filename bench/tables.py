@@ -11,10 +11,12 @@ TIMES = {'share': 1000, 'slice': 1000, 'filter': 10, 'filter_all': 10, 'vstack':
 RUNS = 3
 
 
-def measure(command):
+def measure(command, document=None):
     best, memory = None, 0
     for _ in range(RUNS):
-        process = subprocess.Popen(command, stdout=subprocess.DEVNULL, stderr=subprocess.DEVNULL)
+        if document:
+            document.seek(0)
+        process = subprocess.Popen(command, stdin=document, stdout=subprocess.DEVNULL, stderr=subprocess.DEVNULL)
         _, status, usage = os.wait4(process.pid, 0)
         seconds = usage.ru_utime + usage.ru_stime
         process.returncode = os.waitstatus_to_exitcode(status)
