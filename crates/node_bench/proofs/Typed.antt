@@ -1,7 +1,6 @@
 -- Each number of the arena names an expression that has a kind.
 use Rattle.std.proofs.Common.{◌≡◌, ℕ, zero, suc, ◌<◌, List, refl, sym, subst, arith}
 use Rattle.std.specs.Prelude.{IsSome}
-use Rattle.pu_index.specs.declared.arena.Node.{Node}
 use Rattle.ps_frame.specs.Tables.{Fields}
 use Rattle.ps_frame.specs.Trees.{IsExpression, tree_at, tree_within}
 use Rattle.ps_frame.specs.Typing.{kind_over}
