@@ -2,7 +2,7 @@
 use crate::bytes_idx_map::Entry;
 use crate::{
     BytesIndexMap, CardinalitySketch, FastCachedFunc, FastFixedCache, InitHashMaps,
-    PartitionedHashMap, PlHashMap, PlHashSet, PlIndexMap, PlIndexSet, TryInsertError,
+    PartitionedHashMap, PlHashMap, PlHashSet, PlIndexMap, PlIndexSet,
 };
 use std::alloc::Global;
 use std::marker::{Send, Sync};
@@ -157,10 +157,11 @@ fn doubled(cache: &mut FastFixedCache<u32, u32>, key: u32) -> Option<u32> {
     }
 }
 
-fn small(cache: &mut FastFixedCache<u32, u32>, key: u32) -> Result<u32, TryInsertError<char>> {
+fn small(cache: &mut FastFixedCache<u32, u32>, key: u32) -> Option<Result<u32, char>> {
     match cache.try_get_or_insert_with(&key, |k| if *k < 10 { Ok(*k) } else { Err('l') }) {
-        Ok(value) => Ok(*value),
-        Err(error) => Err(error),
+        Ok(Ok(value)) => Some(Ok(*value)),
+        Ok(Err(error)) => Some(Err(error)),
+        Err(_error) => None,
     }
 }
 
@@ -171,9 +172,9 @@ fn a_cache_that_makes_what_it_lacks(rt: HostRuntime) -> Result<(), Fail> {
     assert_eq!(rt; doubled(&mut cache, 5), Some(1));
     assert_eq!(rt; doubled(&mut cache, 6), Some(12));
     assert_eq!(rt; remembered(&mut cache, 6), Some(12));
-    assert_eq!(rt; small(&mut cache, 6), Ok(12));
-    assert_eq!(rt; small(&mut cache, 7), Ok(7));
-    assert_eq!(rt; small(&mut cache, 11), Err(TryInsertError::Refused('l')));
+    assert_eq!(rt; small(&mut cache, 6), Some(Ok(12)));
+    assert_eq!(rt; small(&mut cache, 7), Some(Ok(7)));
+    assert_eq!(rt; small(&mut cache, 11), Some(Err('l')));
     assert_eq!(rt; remembered(&mut cache, 11), None);
     Ok(())
 }
