@@ -80,7 +80,7 @@ fn iterators_keep_the_order_of_insertion(rt: HostRuntime) -> Result<(), Fail> {
 #[test]
 fn many_keys_are_found(rt: HostRuntime) {
     let mut map = BytesIndexMap::<u32>::new(rt.alloc(), 0);
-    // Each fifth key has the hash of the one before.
+    // Two keys of five have the hash of the one before.
     for i in 0..300_000u32 {
         let hash = u64::from(i - i % 5 % 2).wrapping_mul(0x9e37_79b9_7f4a_7c15);
         assert!(rt; put(rt.alloc(), &mut map, hash, i.to_le_bytes().as_slice(), i));
@@ -111,6 +111,7 @@ fn the_sketch_of_two_hashes(rt: HostRuntime) -> Result<(), Fail> {
     assert_eq!(rt; registers[0], 65);
     assert_eq!(rt; registers[144], 3);
     assert_eq!(rt; registers.iter().filter(|r| **r == 0).count(), 254);
+    can_be_shared(&sketch);
     Ok(())
 }
 
@@ -210,6 +211,7 @@ fn maps_by_partition(rt: HostRuntime) -> Result<(), Fail> {
     assert_eq!(rt; maps.partition(1 << 63), 2);
     maps.map_mut(u64::MAX).insert(1, 2)?;
     assert_eq!(rt; maps.inner().len(), 4);
+    can_be_shared(&maps);
     let set = <PlHashSet<u32> as InitHashMaps>::new(rt.alloc());
     assert!(rt; set.is_empty());
     let index_map = <PlIndexMap<u32, u32> as InitHashMaps>::with_capacity(rt.alloc(), 1)?;
