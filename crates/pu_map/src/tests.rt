@@ -159,10 +159,12 @@ fn doubled(cache: &mut FastFixedCache<u32, u32>, key: u32) -> Option<u32> {
 }
 
 fn small(cache: &mut FastFixedCache<u32, u32>, key: u32) -> Option<Result<u32, char>> {
-    match cache.try_get_or_insert_with(&key, |k| if *k < 10 { Ok(*k) } else { Err('l') }) {
-        Ok(Ok(value)) => Some(Ok(*value)),
-        Ok(Err(error)) => Some(Err(error)),
-        Err(_error) => None,
+    let Ok(made) = cache.try_get_or_insert_with(&key, |k| if *k < 10 { Ok(*k) } else { Err('l') }) else {
+        return None;
+    };
+    match made {
+        Ok(value) => Some(Ok(*value)),
+        Err(error) => Some(Err(error)),
     }
 }
 
