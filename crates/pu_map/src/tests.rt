@@ -159,7 +159,8 @@ fn doubled(cache: &mut FastFixedCache<u32, u32>, key: u32) -> Option<u32> {
 }
 
 fn small(cache: &mut FastFixedCache<u32, u32>, key: u32) -> Option<Result<u32, char>> {
-    let Ok(made) = cache.try_get_or_insert_with(&key, |k| if *k < 10 { Ok(*k) } else { Err('l') }) else {
+    let Ok(made) = cache.try_get_or_insert_with(&key, |k| if *k < 10 { Ok(*k) } else { Err('l') })
+    else {
         return None;
     };
     match made {

@@ -33,7 +33,7 @@ use denote.Triple.Spec.{triple_of}
 use denote.Triple.Table.{framed}
 use denote.Triple.Walked.{Stays, stay_dropped, walk_of, Goes-spent_ref, Goes-dropped}
 use Rattle.std.proofs.raw_atomic.Walks.{proved_at, leaves}
-use Rattle.std.proofs.Common.{ℕ, Option, Result, Ok, Err, IsOk, IsSome, IfOk, IfErr, OnErr}
+use Rattle.std.proofs.Common.{ℕ, Option, Ok, Err, IsOk, IsSome, IfOk, IfErr, OnErr}
 use Rattle.std.specs.Prelude.{IsOkAnd}
 use Rattle.std.specs.Option.{UnwrapsOrElse}
 use Rattle.std.specs.contracts.result.Result as result
@@ -43,7 +43,6 @@ use Rattle.pu_order.proofs.error.PolarsUtilsError.TheLaws as utils_error_laws
 use Rattle.pu_order.specs.declared.error.PolarsUtilsError.TheVariants as refusal
 use Rattle.pu_map.specs.Cache.{key_hash, place_of, place_to_fill, value_at, AnswersCopy, set_apart}
 use Rattle.pu_map.specs.CacheLends.{lends_got, lends_tried}
-use Rattle.pu_map.specs.declared.cache.Refusal as refused
 use Rattle.pu_map.specs.declared.cache.Refusal.TheVariants.{Function}
 use Rattle.pu_map.specs.contracts.cache.Refusal as refusal_row
 use Rattle.pu_map.proofs.cache.Refusal.TheLaws as refusal_laws
