@@ -1,4 +1,4 @@
-use Rattle.std.proofs.Common.{◌≡◌, ◌+◌, Some, [], ◌∷◌, ◌++◌, length, rules, sym, ap, ◌∙◌, zero-add}
+use Rattle.std.proofs.Common.{◌≡◌, ◌+◌, Some, [], ◌∷◌, ◌++◌, length, rules, ap, ◌∙◌}
 use Rattle.keyed_slots.specs.Slots.{live}
 use Rattle.keyed_slots.proofs.SlotLemmas.{live_from-push}
 use Rattle.keyed_slots.proofs.slot_map.SlotMap.insert.Goals as goal
