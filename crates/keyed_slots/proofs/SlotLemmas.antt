@@ -1,5 +1,5 @@
 -- Lemmas on the slots of a map.
-use Rattle.std.proofs.Common.{◌≡◌, ◌≢◌, ℕ, zero, suc, ◌+◌, ◌<◌, ◌≤◌, List, [], ◌∷◌, ◌++◌, length, get_or, set, count_by, cond, Option, Some, None, is_some, refl, sym, ap, ◌∙◌, add-zero, arith, Bool, true, false, not, eqb, eq-eqb, filter, inl, inr}
+use Rattle.std.proofs.Common.{◌≡◌, ◌≢◌, ℕ, zero, suc, ◌+◌, ◌<◌, List, [], ◌∷◌, ◌++◌, length, set, count_by, cond, Option, Some, None, is_some, refl, sym, ap, add-zero, arith, Bool, true, false, not, eqb, eq-eqb, filter, inl, inr}
 use Rattle.std.proofs.lemmas.List.{get_or-set_same, get_or-set_other}
 use Rattle.std.proofs.lemmas.Bool.Decides.{eqb_tells}
 use Rattle.std.proofs.lemmas.List.Sums.{sum_by-cons}

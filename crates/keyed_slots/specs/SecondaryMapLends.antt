@@ -1,11 +1,11 @@
 -- What a `SecondaryMap` ends as, where a `&mut` to one of its values is returned.
-use Rattle.std.specs.Prelude.{ℕ, List, Option}
+use Rattle.std.specs.Prelude.{ℕ, Option}
 use Rattle.std.specs.Borrow.{Lends, LendsIf, Fml, RattleType, MutBor}
 use Rattle.keyed_slots.specs.declared.key.Key.{Ghosts}
-use Rattle.keyed_slots.specs.Slots.{with_value}
+use Rattle.keyed_slots.specs.Slots.{SlotList, with_value}
 use Rattle.keyed_slots.specs.contracts.secondary_map.SecondaryMap.{the_row}
 
-module _ (K V : RattleType) (key : Ghosts K.Denot) (s : MutBor (List (Option V.Denot))) (number : ℕ) where
+module _ (K V : RattleType) (key : Ghosts K.Denot) (s : MutBor (SlotList V.Denot)) (number : ℕ) where
   -- once the borrow r ends, the number has the last value written through r
   abbrev pub lends_value : MutBor V.Denot → Fml
   lends_value r = Lends (the_row K V key) V s r (with_value s.now number)

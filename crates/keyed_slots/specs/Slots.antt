@@ -1,14 +1,30 @@
 -- What a contract sees of a map: the value or nothing at each number from 0 on.
-use Rattle.std.specs.Prelude.{◌≡◌, ◌≢◌, ℕ, ◌+◌, ◌<◌, ◌^◌, List, [], ◌∷◌, Option, Some, None, is_some, count_by, length, slice_index_or, slice_set}
+use Rattle.std.specs.Prelude.{◌≡◌, ◌≢◌, ℕ, ◌+◌, ◌<◌, ◌^◌, List, [], ◌∷◌, Option, Some, None, is_some, count_by, length, slice_index_or, slice_set, refl}
+use Rattle.std.specs.Coded.{Coded, code_by, coded×, coded_ℕ, coded_list, coded_option}
+
+-- the slots, and how many more of them fit without taking memory
+pub record SlotList (V : Type 0) : Type 0 where
+  pub slots : List (Option V)
+  pub room : ℕ
+
+-- a map is stored as the pair of its parts
+abbrev pub slot_list_code : {V : Type 0} → Coded V → Coded (SlotList V)
+slot_list_code {V} code =
+    code_by
+    (List (Option V) × ℕ)
+    (coded× (coded_list (coded_option code)) coded_ℕ)
+    (λ m. (m.slots, m.room))
+    (λ p. record { slots = p.0; room = p.1 })
+    (λ _. refl)
 
 module _ {V : Type 0} where
   -- the value at a number, if there is one
   abbrev pub value_at : List (Option V) → ℕ → Option V
   value_at slots number = slice_index_or slots number None
 
-  -- the slots after a write of the value at a number
-  abbrev pub with_value : List (Option V) → ℕ → V → List (Option V)
-  with_value slots number value = slice_set slots number (Some value)
+  -- the map after a write of the value at a number
+  abbrev pub with_value : SlotList V → ℕ → V → SlotList V
+  with_value m number value = record m { slots = slice_set m.slots number (Some value) }
 
   -- the number has this now, and every other number keeps what it had
   pub record Updates (old new : List (Option V)) (number : ℕ) (slot : Option V) : Type 0 where

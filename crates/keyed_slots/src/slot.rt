@@ -1,5 +1,5 @@
 // The places of a map: each has a value or nothing.
-ghost use Rattle.std.specs.Prelude.{◌≡◌, ◌≤◌, ℕ, IsSome, Some, OnOk, OnErr, vec_len};
+ghost use Rattle.std.specs.Prelude.{◌≡◌, ◌≤◌, ℕ, IsSome, Some, IsOk, OnOk, OnErr, vec_len, vec_capacity};
 ghost use Rattle.std.specs.Borrow.{sem};
 ghost use Rattle.keyed_slots.specs.Lends.{lends_slot};
 ghost use Rattle.keyed_slots.specs.Slots.{value_at};
@@ -23,7 +23,9 @@ pub(crate) fn grow<V>(slots: &mut Vec<Option<V>>, len: usize) -> Result<(), Allo
     requires { vec_len slots.old ≤ len }
     ensures long { OnOk result (vec_len slots.new ≡ len) }
     ensures values { (number : ℕ) → value_at slots.new.items number ≡ value_at slots.old.items number }
-    ensures unchanged { OnErr result (slots.new.items ≡ slots.old.items) }
+    ensures capacity { vec_capacity slots.old ≤ vec_capacity slots.new }
+    ensures succeeds { len ≤ vec_capacity slots.old → IsOk result }
+    ensures unchanged { OnErr result ((slots.new.items ≡ slots.old.items) × (vec_capacity slots.new ≡ vec_capacity slots.old)) }
 {
     slots.reserve(len - slots.len())?;
     'empties: for _ in slots.len()..len {

@@ -3,3 +3,4 @@ pub mod LinkLemmas
 pub mod SketchLemmas
 pub mod CacheLemmas
 pub mod CachedFuncLemmas
+pub mod TriedLemmas

@@ -98,6 +98,12 @@ module _ (b : ℕ → ℕ) (bytes : List ℕ) (links : List Link) (hash : ℕ) (
           last.none_between j (omega arith) below (ap b (hash_of_key bytes links j hash key found) ∙ sym (on.points positive))
       behind j from other found (inr above) = on.passed j (omega arith) found
 
+-- what stands in a list stands there when more follows
+pub slice_get-append : {X : Type 0} (xs ys : List X) (i : ℕ) (x : X) → slice_get xs i ≡ Some x → slice_get (xs ++ ys) i ≡ Some x
+slice_get-append [] ys i x found = absurd cc
+slice_get-append (y ∷ xs) ys zero x found = found
+slice_get-append (y ∷ xs) ys (suc i) x found = slice_get-append xs ys i x found
+
 -- where an element of a list and one more stands
 pub slice_get_push : {X : Type 0} (xs : List X) (x : X) (i : ℕ) (y : X) → slice_get (xs ++ x ∷ []) i ≡ Some y → ((i < length xs) × (slice_get xs i ≡ Some y)) ⊎ ((i ≡ length xs) × (x ≡ y))
 slice_get_push [] x zero y found = inr (refl, cc)

@@ -1,5 +1,5 @@
 -- A cache of a fixed number of slots, of which each key has two.
-use Rattle.std.specs.Prelude.{◌≡◌, ℕ, ◌+◌, ◌-◌, ◌*◌, ◌%◌, ◌^◌, Bool, false, List, length, Option, Some, None, slice_index_or, slice_set, nat_le, if◌then◌else◌, option_and_then, fold, refl}
+use Rattle.std.specs.Prelude.{◌≡◌, ℕ, ◌+◌, ◌-◌, ◌*◌, ◌%◌, ◌^◌, Bool, false, List, length, Option, Some, None, Result, Ok, Err, slice_index_or, slice_set, nat_le, if◌then◌else◌, option_and_then, fold, refl}
 use Rattle.std.specs.Option.{option_map}
 use Rattle.std.specs.Coded.{Coded, code_by, coded×, coded_ℕ, coded_list, coded_option}
 use Rattle.std.specs.Borrow.{Bor}
@@ -7,7 +7,11 @@ use Rattle.std.specs.Fn.{Once, FnOnceReturnsAt}
 use Rattle.std.specs.Hash.{HashWrites}
 use Rattle.std.specs.Hash.FoldHasher as folding
 use Rattle.pu_order.specs.Hashing.{partition_of}
+use Rattle.pu_order.specs.declared.error.PolarsUtilsError.{PolarsUtilsError}
+use Rattle.pu_order.specs.declared.error.PolarsUtilsError.TheVariants as refusal
 use Rattle.pu_map.specs.declared.cache.CacheSlot.{CacheSlot}
+use Rattle.pu_map.specs.declared.cache.Refusal.{Refusal}
+use Rattle.pu_map.specs.declared.cache.Refusal.TheVariants.{OutOfMemory, Function}
 
 -- the slots, and what the age of the next access is
 pub record CacheState (K V : Type 0) : Type 0 where
@@ -132,3 +136,9 @@ module _ {K V : Type 0} where
   abbrev pub IsGot : (K → Type 0) → CacheState K V → Option ℕ → ℕ → V → CacheState K V → Type 0
   IsGot Made c (Some i) j w n = n ≡ with_value (touched c i) i w
   IsGot Made c None j w n = (key : K) × Made key × (n ≡ filled c j key w)
+
+-- what was lent, or the function's error, apart from the want of memory
+abbrev pub set_apart : {R E : Type 0} → Result R (Refusal E) → Result (Result R E) PolarsUtilsError
+set_apart (Ok value) = Ok (Ok value)
+set_apart (Err (Function e)) = Ok (Err e)
+set_apart (Err OutOfMemory) = Err refusal.OutOfMemory

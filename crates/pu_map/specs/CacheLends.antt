@@ -1,6 +1,7 @@
 -- What a cache ends as, once a reference to one of its values has ended.
-use Rattle.std.specs.Prelude.{◌≡◌, ℕ, Option, Some, Result, IfOk, OnErr, ⊤}
-use Rattle.std.specs.Borrow.{Lends, LendsIf, Fml, RattleType, MutBor, follows_so, name_if_ok}
+use Rattle.std.specs.Prelude.{◌≡◌, ℕ, Option, Some, Result, IfOk, IfSome, IfNone, OnErr, option_and_then, ⊤}
+use Rattle.std.specs.Result.{result_ok}
+use Rattle.std.specs.Borrow.{Lends, LendsIf, LendsSo, Fml, RattleType, MutBor, follows_so, name_if_ok}
 use mathlib.Core.Option as maybe
 use Rattle.std.specs.contracts.option.Option.{the_row as option_row}
 use Rattle.pu_map.specs.Cache.{CacheState, slot_with_value, with_value, looked_up, written, touched, filled, IsGot}
@@ -43,3 +44,14 @@ module _ (K V : RattleType) where
         follows_so (the_row K V) V c.ghost_name (name_if_ok (λ x. x.ghost_name) r)
         (λ w n. IfOk r (λ x. IsGot (λ key. Made key x.now) c.now place free w n))
         (λ n. OnErr r (n ≡ c.now))
+
+    -- the reference that a result of two layers holds, if it holds one
+    abbrev pub lent_in : {E G : Type 0} → Result (Result (MutBor V.Denot) E) G → Option (MutBor V.Denot)
+    lent_in r = option_and_then result_ok (result_ok r)
+
+    -- the same for a result of two layers: at either `Err` the cache stays as it is
+    abbrev pub lends_tried : {E G : Type 0} → Option ℕ → ℕ → (K.Denot → V.Denot → Type 0) → Result (Result (MutBor V.Denot) E) G → Fml
+    lends_tried place free Made r =
+        LendsSo (the_row K V) V c (lent_in r)
+        (λ n w. IfSome (lent_in r) (λ x. IsGot (λ key. Made key x.now) c.now place free w n))
+        (λ n. IfNone (lent_in r) (n ≡ c.now))

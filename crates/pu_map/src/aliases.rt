@@ -1,5 +1,5 @@
 //! The maps and sets of the engine, over std's fixed hash states.
-ghost use Rattle.std.specs.Prelude.{IfOk, OnErr, ◌≡◌, Err};
+ghost use Rattle.std.specs.Prelude.{IfOk, OnErr, ◌≡◌, ◌≤◌, ℕ, Err};
 ghost use Rattle.pu_order.specs.declared.error.PolarsUtilsError.TheVariants as refusal;
 
 use indexmap::{IndexMap, IndexSet};
@@ -33,6 +33,9 @@ pub trait InitHashMaps {
     /// The map or set has nothing in it.
     ghost is_empty: { Self.HashMap → Type 0 };
 
+    /// How many entries more fit without taking memory.
+    ghost room: { Self.HashMap → ℕ };
+
     /// An empty map or set, which takes no memory.
     fn new(alloc: Global) -> Self::HashMap
         ensures { is_empty result };
@@ -40,15 +43,18 @@ pub trait InitHashMaps {
     /// An empty map or set with room. It fails only for want of memory.
     fn with_capacity(alloc: Global, capacity: usize) -> Result<Self::HashMap>
         ensures empty { IfOk result is_empty }
+        ensures makes_room { IfOk result (λ m. capacity ≤ room m) }
         ensures memory { OnErr result (result ≡ Err refusal.OutOfMemory) };
 }
 
 impl<K: Eq + Hash, V> InitHashMaps for PlHashMap<K, V> {
-    ghost use Rattle.std.specs.HashMap.{IsEmpty};
+    ghost use Rattle.std.specs.HashMap.{IsEmpty, spare};
 
     type HashMap = PlHashMap<K, V>;
 
     ghost is_empty = { IsEmpty };
+
+    ghost room = { spare };
 
     fn new(alloc: Global) -> PlHashMap<K, V> {
         HashMap::new(alloc)
@@ -60,11 +66,13 @@ impl<K: Eq + Hash, V> InitHashMaps for PlHashMap<K, V> {
 }
 
 impl<K: Eq + Hash> InitHashMaps for PlHashSet<K> {
-    ghost use Rattle.std.specs.HashSet.{IsEmpty};
+    ghost use Rattle.std.specs.HashSet.{IsEmpty, spare};
 
     type HashMap = PlHashSet<K>;
 
     ghost is_empty = { IsEmpty };
+
+    ghost room = { spare };
 
     fn new(alloc: Global) -> PlHashSet<K> {
         HashSet::new(alloc)
@@ -77,10 +85,13 @@ impl<K: Eq + Hash> InitHashMaps for PlHashSet<K> {
 
 impl<K: Eq + Hash, V> InitHashMaps for PlIndexMap<K, V> {
     ghost use Rattle.std.specs.HashMap.{IsEmpty};
+    ghost use Rattle.indexmap.specs.IndexMap.{spare};
 
     type HashMap = PlIndexMap<K, V>;
 
     ghost is_empty = { IsEmpty };
+
+    ghost room = { spare };
 
     fn new(alloc: Global) -> PlIndexMap<K, V> {
         IndexMap::new(alloc)
@@ -93,10 +104,13 @@ impl<K: Eq + Hash, V> InitHashMaps for PlIndexMap<K, V> {
 
 impl<K: Eq + Hash> InitHashMaps for PlIndexSet<K> {
     ghost use Rattle.std.specs.HashSet.{IsEmpty};
+    ghost use Rattle.indexmap.specs.IndexSet.{spare};
 
     type HashMap = PlIndexSet<K>;
 
     ghost is_empty = { IsEmpty };
+
+    ghost room = { spare };
 
     fn new(alloc: Global) -> PlIndexSet<K> {
         IndexSet::new(alloc)

@@ -3,10 +3,10 @@
 //! Entries are only added, so an entry's number never changes, nor does what `get_index` says of its hash and key. A key is found
 //! by its hash and its bytes: under two hashes it stands twice. A look-up and an insert take constant time on average, and a key
 //! that is there isn't copied again.
-ghost use Rattle.std.specs.Prelude.{◌≡◌, ℕ, ◌+◌, ◌-◌, ◌<◌, ◌≤◌, ◌^◌, ◌↔◌, [], ◌∷◌, ◌++◌, length, slice_get, Some, Err, IsTrue, IsOk, IsSome, IfSome, IfNone, IfOk, IfErr, OnOk, OnErr, option_copied};
+ghost use Rattle.std.specs.Prelude.{◌≡◌, ℕ, ◌+◌, ◌-◌, ◌<◌, ◌≤◌, ◌^◌, ◌↔◌, List, [], ◌∷◌, ◌++◌, length, slice_get, Some, Err, IsTrue, IsOk, IsSome, IfSome, IfNone, IfOk, IfErr, OnOk, OnErr, option_copied};
 ghost use Rattle.std.specs.Borrow.{sem};
 ghost use Rattle.pu_order.specs.declared.error.PolarsUtilsError.TheVariants as refusal;
-ghost use Rattle.pu_map.specs.Keys.{IsAbsent, AreDistinct};
+ghost use Rattle.pu_map.specs.Keys.{Key, IsAbsent, AreDistinct};
 ghost use Rattle.pu_map.specs.BytesMap.{StandsAt};
 
 mod entry;
@@ -68,6 +68,7 @@ impl<V> BytesIndexMap<V> {
         ensures keys { self.new.keys ≡ self.old.keys }
         ensures values { self.new.values ≡ self.old.values }
         ensures more_room { self.old.room ≤ self.new.room }
+        ensures key_room { self.new.key_room ≡ self.old.key_room }
         ensures memory { OnErr result (result ≡ Err refusal.OutOfMemory) }
     {
         self.table.reserve(alloc, additional)?;
@@ -226,3 +227,8 @@ impl<V> BytesIndexMap<V> {
         &mut self.values[index]
     }
 }
+
+/// What stands at a number stays there, since a call adds keys at the end alone.
+pub fn a_key_keeps_its_number()
+    ensures { (keys more : List Key) (i : ℕ) (key : Key) → slice_get keys i ≡ Some key → slice_get (keys ++ more) i ≡ Some key }
+{}

@@ -1,25 +1,23 @@
 //! A cache of a fixed size. Each key has two slots by its hash, and an insert takes the older of them where neither is free.
-ghost use Rattle.std.specs.Prelude.{◌≡◌, ℕ, ◌<◌, ◌≤◌, ◌/◌, ◌^◌, max, length, Some, None, Ok, Err, IsSome, IsOk, IfSome, IfOk, IfErr, OnOk, OnErr, option_copied, slice_set, vec_len};
+ghost use Rattle.std.specs.Prelude.{◌≡◌, ℕ, ◌<◌, ◌≤◌, ◌/◌, ◌^◌, max, length, Some, None, Ok, Err, IsSome, IsOk, IsOkAnd, IfSome, IfOk, IfErr, OnOk, OnErr, option_copied, slice_set, vec_len};
 ghost use Rattle.std.specs.Option.{option_copied_mut, UnwrapsOrElse};
 ghost use Rattle.std.specs.Int.{IsPowerOfTwo};
 ghost use Rattle.std.specs.Borrow.{sem};
 ghost use Rattle.pu_order.specs.declared.error.PolarsUtilsError.TheVariants as refusal;
-ghost use Rattle.pu_map.specs.Cache.{key_hash, first_place, second_place, slot_at, place_of, place_to_fill, value_at, touched, filled, AnswersCopy};
+ghost use Rattle.pu_map.specs.Cache.{key_hash, first_place, second_place, slot_at, place_of, place_to_fill, value_at, touched, filled, AnswersCopy, set_apart};
 
-use pu_order::{Result, hash_to_partition};
+use pu_order::{PolarsUtilsError, Result, hash_to_partition};
 use std::alloc::{AllocError, Global};
 use std::hash::{FoldHasher, Hash, Hasher};
 use std::marker::Model;
 
 const MIN_FAST_FIXED_CACHE_SIZE: usize = 16;
 
-/// Why a value could not be made and put in.
-#[derive(Debug, PartialEq, Eq, Drop)]
-pub enum TryInsertError<E> {
-    /// There was no memory for a copy of the key.
+/// Why a value was not put in: there was no memory for a copy of its key, or the function that makes the value answered an error.
+#[derive(Drop)]
+pub(crate) enum Refusal<E> {
     OutOfMemory,
-    /// The function that makes the value answered this error.
-    Refused(E),
+    Function(E),
 }
 
 /// What a slot holds, and when it was last hit or filled.
@@ -186,6 +184,19 @@ fn cloned_slots<K: Clone, V: Clone>(
     Ok(copies)
 }
 
+// What was lent, or the function's error, apart from the want of memory.
+fn set_apart<'a, V, E>(
+    lent: std::result::Result<&'a mut V, Refusal<E>>,
+) -> Result<std::result::Result<&'a mut V, E>>
+    ensures { result ≡ set_apart lent.entry }
+{
+    match lent {
+        Ok(value) => Ok(Ok(value)),
+        Err(Refusal::Function(error)) => Ok(Err(error)),
+        Err(Refusal::OutOfMemory) => Err(PolarsUtilsError::OutOfMemory),
+    }
+}
+
 impl<K: Clone, V: Clone> FastFixedCache<K, V> {
     /// An equal cache; clones have to equal their source. It fails only for want of memory.
     pub fn try_clone(&self, alloc: Global) -> Result<FastFixedCache<K, V>>
@@ -202,8 +213,8 @@ impl<K: Clone, V: Clone> FastFixedCache<K, V> {
 }
 
 impl<K: Hash + Eq, V> FastFixedCache<K, V> {
-    ghost use Rattle.pu_map.specs.declared.cache.TryInsertError.TheVariants.{Refused};
-    ghost use Rattle.pu_map.specs.CacheLends.{lends_value, lends_hit, lends_found, ends_looked_up, lends_filled, lends_got};
+    ghost use Rattle.pu_map.specs.declared.cache.Refusal.TheVariants.{Function};
+    ghost use Rattle.pu_map.specs.CacheLends.{lends_value, lends_hit, lends_found, ends_looked_up, lends_filled, lends_got, lends_tried};
 
     /// A cache without keys, of the next power of two of `max(n, 16)` slots. It fails only for want of memory.
     pub fn new(alloc: Global, n: usize) -> Result<FastFixedCache<K, V>>
@@ -303,19 +314,38 @@ impl<K: Hash + Eq, V> FastFixedCache<K, V> {
         }
     }
 
-    /// The same with a function that may fail. Its error is handed on, and the cache is then as before.
+    /// The same with a function that may fail: the inner error is the function's, and the cache is then as before.
     pub fn try_get_or_insert_with<E, F: FnOnce(&K) -> std::result::Result<V, E>>(
         &mut self,
         key: &K,
         f: F,
-    ) -> std::result::Result<&mut V, TryInsertError<E>>
+    ) -> Result<std::result::Result<&mut V, E>>
+    where
+        K: Clone + Drop,
+        V: Drop,
+        requires callable { place_of K.eq self.old.slots (key_hash (K.hash_input key.now)) key.now ≡ None → F.IsAlwaysCallable f }
+        ensures* writes_back { sem 𝓛 (lends_tried K.row V.row self.entry (place_of K.eq self.old.slots (key_hash (K.hash_input key.now)) key.now) (place_to_fill K.eq self.old.slots (key_hash (K.hash_input key.now)) key.now) (λ copy value. AnswersCopy K.is_clone F.FnOnce f key.now copy (Ok value)) result) }
+        ensures value { IfOk result (λ made. IfOk made (λ x. UnwrapsOrElse (value_at self.old.slots (place_of K.eq self.old.slots (key_hash (K.hash_input key.now)) key.now)) (λ value. (copy : K) × AnswersCopy K.is_clone F.FnOnce f key.now copy (Ok value)) x.now)) }
+        ensures refused { IfOk result (λ made. IfErr made (λ e. (copy : K) × AnswersCopy K.is_clone F.FnOnce f key.now copy (Err e))) }
+        ensures found { IsSome (place_of K.eq self.old.slots (key_hash (K.hash_input key.now)) key.now) → IsOkAnd result (λ made. IsOk made) }
+        ensures memory { OnErr result (result ≡ Err refusal.OutOfMemory) }
+    {
+        set_apart(self.try_got_with(key, f))
+    }
+
+    // The same in one result, whose error says which of the two it is.
+    fn try_got_with<E, F: FnOnce(&K) -> std::result::Result<V, E>>(
+        &mut self,
+        key: &K,
+        f: F,
+    ) -> std::result::Result<&mut V, Refusal<E>>
     where
         K: Clone + Drop,
         V: Drop,
         requires callable { place_of K.eq self.old.slots (key_hash (K.hash_input key.now)) key.now ≡ None → F.IsAlwaysCallable f }
         ensures* writes_back { sem 𝓛 (lends_got K.row V.row self.entry (place_of K.eq self.old.slots (key_hash (K.hash_input key.now)) key.now) (place_to_fill K.eq self.old.slots (key_hash (K.hash_input key.now)) key.now) (λ copy value. AnswersCopy K.is_clone F.FnOnce f key.now copy (Ok value)) result) }
         ensures value { IfOk result (λ x. UnwrapsOrElse (value_at self.old.slots (place_of K.eq self.old.slots (key_hash (K.hash_input key.now)) key.now)) (λ value. (copy : K) × AnswersCopy K.is_clone F.FnOnce f key.now copy (Ok value)) x.now) }
-        ensures refused { (e : E) → result ≡ Err (Refused e) → (copy : K) × AnswersCopy K.is_clone F.FnOnce f key.now copy (Err e) }
+        ensures refused { (e : E) → result ≡ Err (Function e) → (copy : K) × AnswersCopy K.is_clone F.FnOnce f key.now copy (Err e) }
         ensures found { IsSome (place_of K.eq self.old.slots (key_hash (K.hash_input key.now)) key.now) → IsOk result }
     {
         match self.try_place_with(key, f) {
@@ -329,7 +359,7 @@ impl<K: Hash + Eq, V> FastFixedCache<K, V> {
         &mut self,
         key: &K,
         f: F,
-    ) -> std::result::Result<usize, TryInsertError<E>>
+    ) -> std::result::Result<usize, Refusal<E>>
     where
         K: Clone + Drop,
         V: Drop,
@@ -337,7 +367,7 @@ impl<K: Hash + Eq, V> FastFixedCache<K, V> {
         ensures hit { IfSome (place_of K.eq self.old.slots (key_hash (K.hash_input key.now)) key.now) (λ i. (result ≡ Ok i) × (self.new ≡ touched self.old i)) }
         ensures filled { IfOk result (λ i. place_of K.eq self.old.slots (key_hash (K.hash_input key.now)) key.now ≡ None → (i ≡ place_to_fill K.eq self.old.slots (key_hash (K.hash_input key.now)) key.now) × ((copy : K) × (value : V) × AnswersCopy K.is_clone F.FnOnce f key.now copy (Ok value) × (self.new ≡ filled self.old i copy value))) }
         ensures held { IfOk result (λ i. IsSome (slot_at self.new.slots i)) }
-        ensures refused { (e : E) → result ≡ Err (Refused e) → (copy : K) × AnswersCopy K.is_clone F.FnOnce f key.now copy (Err e) }
+        ensures refused { (e : E) → result ≡ Err (Function e) → (copy : K) × AnswersCopy K.is_clone F.FnOnce f key.now copy (Err e) }
         ensures unchanged { OnErr result (self.new ≡ self.old) }
     {
         match self.place_of(key) {
@@ -349,14 +379,14 @@ impl<K: Hash + Eq, V> FastFixedCache<K, V> {
                 let place = self.place_to_fill(key);
                 let copy = match key.clone() {
                     Ok(copy) => copy,
-                    Err(_) => return Err(TryInsertError::OutOfMemory),
+                    Err(_) => return Err(Refusal::OutOfMemory),
                 };
                 match f(&copy) {
                     Ok(value) => {
                         self.fill(place, copy, value);
                         Ok(place)
                     }
-                    Err(error) => Err(TryInsertError::Refused(error)),
+                    Err(error) => Err(Refusal::Function(error)),
                 }
             }
         }

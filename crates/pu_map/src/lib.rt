@@ -15,7 +15,7 @@ pub use aliases::{
     InitHashMaps, PlHashMap, PlHashSet, PlIndexMap, PlIndexSet, PlRandomState, PlRandomStateQuality,
 };
 pub use bytes_idx_map::BytesIndexMap;
-pub use cache::{FastFixedCache, TryInsertError};
+pub use cache::FastFixedCache;
 pub use cached_func::FastCachedFunc;
 // A crate can name a map in a contract only if the types of its fields are exported.
 #[doc(hidden)]

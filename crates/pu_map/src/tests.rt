@@ -2,7 +2,7 @@
 use crate::bytes_idx_map::Entry;
 use crate::{
     BytesIndexMap, CardinalitySketch, FastCachedFunc, FastFixedCache, InitHashMaps,
-    PartitionedHashMap, PlHashMap, PlHashSet, PlIndexMap, PlIndexSet, TryInsertError,
+    PartitionedHashMap, PlHashMap, PlHashSet, PlIndexMap, PlIndexSet,
 };
 use std::alloc::Global;
 use std::marker::{Send, Sync};
@@ -80,7 +80,7 @@ fn iterators_keep_the_order_of_insertion(rt: HostRuntime) -> Result<(), Fail> {
 #[test]
 fn many_keys_are_found(rt: HostRuntime) {
     let mut map = BytesIndexMap::<u32>::new(rt.alloc(), 0);
-    // Each fifth key has the hash of the one before.
+    // Two keys of five have the hash of the one before.
     for i in 0..300_000u32 {
         let hash = u64::from(i - i % 5 % 2).wrapping_mul(0x9e37_79b9_7f4a_7c15);
         assert!(rt; put(rt.alloc(), &mut map, hash, i.to_le_bytes().as_slice(), i));
@@ -111,6 +111,7 @@ fn the_sketch_of_two_hashes(rt: HostRuntime) -> Result<(), Fail> {
     assert_eq!(rt; registers[0], 65);
     assert_eq!(rt; registers[144], 3);
     assert_eq!(rt; registers.iter().filter(|r| **r == 0).count(), 254);
+    can_be_shared(&sketch);
     Ok(())
 }
 
@@ -157,10 +158,14 @@ fn doubled(cache: &mut FastFixedCache<u32, u32>, key: u32) -> Option<u32> {
     }
 }
 
-fn small(cache: &mut FastFixedCache<u32, u32>, key: u32) -> Result<u32, TryInsertError<char>> {
-    match cache.try_get_or_insert_with(&key, |k| if *k < 10 { Ok(*k) } else { Err('l') }) {
-        Ok(value) => Ok(*value),
-        Err(error) => Err(error),
+fn small(cache: &mut FastFixedCache<u32, u32>, key: u32) -> Option<Result<u32, char>> {
+    let Ok(made) = cache.try_get_or_insert_with(&key, |k| if *k < 10 { Ok(*k) } else { Err('l') })
+    else {
+        return None;
+    };
+    match made {
+        Ok(value) => Some(Ok(*value)),
+        Err(error) => Some(Err(error)),
     }
 }
 
@@ -171,9 +176,9 @@ fn a_cache_that_makes_what_it_lacks(rt: HostRuntime) -> Result<(), Fail> {
     assert_eq!(rt; doubled(&mut cache, 5), Some(1));
     assert_eq!(rt; doubled(&mut cache, 6), Some(12));
     assert_eq!(rt; remembered(&mut cache, 6), Some(12));
-    assert_eq!(rt; small(&mut cache, 6), Ok(12));
-    assert_eq!(rt; small(&mut cache, 7), Ok(7));
-    assert_eq!(rt; small(&mut cache, 11), Err(TryInsertError::Refused('l')));
+    assert_eq!(rt; small(&mut cache, 6), Some(Ok(12)));
+    assert_eq!(rt; small(&mut cache, 7), Some(Ok(7)));
+    assert_eq!(rt; small(&mut cache, 11), Some(Err('l')));
     assert_eq!(rt; remembered(&mut cache, 11), None);
     Ok(())
 }
@@ -209,6 +214,7 @@ fn maps_by_partition(rt: HostRuntime) -> Result<(), Fail> {
     assert_eq!(rt; maps.partition(1 << 63), 2);
     maps.map_mut(u64::MAX).insert(1, 2)?;
     assert_eq!(rt; maps.inner().len(), 4);
+    can_be_shared(&maps);
     let set = <PlHashSet<u32> as InitHashMaps>::new(rt.alloc());
     assert!(rt; set.is_empty());
     let index_map = <PlIndexMap<u32, u32> as InitHashMaps>::with_capacity(rt.alloc(), 1)?;

@@ -7,7 +7,8 @@ pub empties-preserved : goal.empties-preserved
 empties-preserved g c = (
   omega arith,
   omega arith,
+  omega arith,
   λ number. ap (λ xs. value_at xs number) c.push_reserved.ensures.items
       ∙ value_at-push_empty c.empties.slots.items number
-      ∙ c.empties.invariant.2 number,
+      ∙ c.empties.invariant.3 number,
 )

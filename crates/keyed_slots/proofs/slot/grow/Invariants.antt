@@ -8,4 +8,5 @@ abbrev pub invariant-empties : goal.invariant-empties
 invariant-empties g l =
     (vec_len l.slots ≡ l.counter)
     × (l.len ≤ vec_capacity l.slots)
+    × (vec_capacity l.fn.slots ≤ vec_capacity l.slots)
     × ((number : ℕ) → value_at l.slots.items number ≡ value_at l.fn.slots.items number)

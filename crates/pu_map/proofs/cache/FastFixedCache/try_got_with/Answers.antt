@@ -1,7 +1,7 @@
 use Rattle.std.proofs.Common.{refl, Ok}
 use Rattle.pu_map.specs.Cache.{key_hash, place_of, place_to_fill, AnswersCopy}
 use Rattle.pu_map.proofs.CacheLemmas.{got}
-use Rattle.pu_map.proofs.cache.FastFixedCache.try_get_or_insert_with.Goals as goal
+use Rattle.pu_map.proofs.cache.FastFixedCache.try_got_with.Goals as goal
 
 pub returns-in-Ok : goal.returns-in-Ok
 returns-in-Ok g c =
