@@ -5,7 +5,6 @@
 #![tactic(auto)]
 
 mod exprs;
-mod functions;
 mod nodes;
 mod table;
 

@@ -3,9 +3,9 @@ ghost use Rattle.std.specs.Prelude.{◌≡◌, ◌<◌};
 ghost use Rattle.ps_tables.specs.Called.{functions_of};
 ghost use Rattle.ps_validate.specs.Valid.{IsValidWith};
 
-use crate::functions::NoFunctions;
 use crate::table::{Summary, keyed, make, summarize};
 use anyhow::{Result, bail};
+use call_trials::counting::CountingFunctions;
 use node_trials::tables::node_table;
 use ps_document::document::{Document, read_document};
 use ps_frame::expr::AExpr;
@@ -125,8 +125,9 @@ fn repeat_plan<L: Ledger>(
 {
     let Document { nodes, exprs, root } = document;
     let mut steps = Steps::<L>::new(blank);
-    let valid = validate(alloc, root, nodes, &exprs, &NoFunctions, &mut steps)?;
-    repeat_valid(alloc, &valid, &exprs, &NoFunctions, times)
+    let functions = CountingFunctions::new();
+    let valid = validate(alloc, root, nodes, &exprs, &functions, &mut steps)?;
+    repeat_valid(alloc, &valid, &exprs, &functions, times)
 }
 
 /// Computes the node so many times, but at least once, and tells of the last table. It fails only for want of memory.
