@@ -8,8 +8,11 @@ pub mod FixedRing
 pub mod Idx
 pub mod Padded
 pub mod Parts
+pub mod Places
+pub mod PlacesOwned
 pub mod Portion
 pub mod Reader
+pub mod RingLaid
 pub mod StoredIn
 pub mod UnitLends
 pub mod UnitVec

@@ -138,6 +138,7 @@ fn goes_round(rt: HostRuntime) -> Result<(), Fail> {
     assert_eq!(rt; items.as_slice(), [2, 3, 4].as_slice());
     assert_eq!(rt; ring.pop_front(), Some(2));
     assert_eq!(rt; ring.fill_repeat(9, 5), 1);
+    shared_by_threads(&ring);
     Ok(())
 }
 
