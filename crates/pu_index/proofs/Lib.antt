@@ -1,4 +1,5 @@
 pub mod CallsPush
+pub mod InMemory
 pub mod Padded
 pub mod Pairings
 pub mod Pairs

@@ -6,6 +6,7 @@ pub mod Compared
 pub mod Counted
 pub mod FixedRing
 pub mod Idx
+pub mod InMemory
 pub mod Padded
 pub mod Parts
 pub mod Places
