@@ -1,7 +1,14 @@
 pub mod CallsPush
+pub mod InMemory
 pub mod Padded
 pub mod Pairings
 pub mod Pairs
+pub mod Places
+pub mod PlacesBlock
+pub mod PlacesCross
+pub mod PlacesOwned
+pub mod PlacesShared
+pub mod Rings
 pub mod Searches
 pub mod StoredParts
 pub mod Turn

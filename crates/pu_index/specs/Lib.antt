@@ -6,10 +6,14 @@ pub mod Compared
 pub mod Counted
 pub mod FixedRing
 pub mod Idx
+pub mod InMemory
 pub mod Padded
 pub mod Parts
+pub mod Places
+pub mod PlacesOwned
 pub mod Portion
 pub mod Reader
+pub mod RingLaid
 pub mod StoredIn
 pub mod UnitLends
 pub mod UnitVec

@@ -114,6 +114,9 @@ impl<T> Arena<T> {
     }
 
     /// Two different entries, to write to.
+    ///
+    /// A caller whose contract says what the arena ends as takes them from the entries, by
+    /// `pair_of(arena.entries_mut(), a, b)`: what is lent twice is followed into a slice alone.
     pub fn get_pair_mut(&mut self, a: Node, b: Node) -> (&mut T, &mut T)
         requires first { a.0 < length self.old }
         requires second { b.0 < length self.old }
@@ -125,8 +128,8 @@ impl<T> Arena<T> {
         pair_of(self.entries_mut(), a, b)
     }
 
-    /// The entries, to write to.
-    fn entries_mut(&mut self) -> &mut [T]
+    /// The entries in the order of their numbers, to write to.
+    pub fn entries_mut(&mut self) -> &mut [T]
         ensures* writes_back { sem 𝓛 (lends_entries T.row self.entry result) }
         ensures value { result.now ≡ self.old }
     {
@@ -274,7 +277,7 @@ fn cloned<T: Clone>(alloc: Global, values: &[T]) -> Result<Vec<T>>
 }
 
 /// Two different entries of a slice, to write to.
-fn pair_of<T>(entries: &mut [T], a: Node, b: Node) -> (&mut T, &mut T)
+pub fn pair_of<T>(entries: &mut [T], a: Node, b: Node) -> (&mut T, &mut T)
     requires first { a.0 < length entries.old }
     requires second { b.0 < length entries.old }
     requires different { a.0 ≢ b.0 }

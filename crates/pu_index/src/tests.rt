@@ -1,4 +1,7 @@
 // What no clause says: values from outside, printed texts, and that calls succeed.
+ghost use Rattle.std.specs.Prelude.{◌≡◌, ◌≢◌, ◌<◌, length, slice_set};
+
+use crate::arena::pair_of;
 use crate::idx::{NullableIdxSize, ToIdx, check_bounds};
 use crate::indexable::Indexable;
 use crate::slices::SliceAble;
@@ -72,6 +75,9 @@ fn keeps_entries(rt: HostRuntime) -> Result<(), Fail> {
     assert!(rt; second.0 < arena.len());
     *arena.get_mut(second) = 9;
     assert_eq!(rt; *arena.get(second), 9);
+    write_pair(&mut arena, first, second);
+    assert_eq!(rt; *arena.get(first), 3);
+    assert_eq!(rt; *arena.get(second), 4);
     let (later, earlier) = arena.get_pair_mut(second, first);
     (*later, *earlier) = (2, 1);
     assert_eq!(rt; arena.pop(), Some(2));
@@ -80,6 +86,18 @@ fn keeps_entries(rt: HostRuntime) -> Result<(), Fail> {
     assert_eq!(rt; arena.version(), 1);
     assert!(rt; arena.is_empty());
     Ok(())
+}
+
+// By way of the entries it is known what the arena ends as.
+fn write_pair(arena: &mut Arena<u32>, a: Node, b: Node)
+    requires first { a.0 < length arena.old }
+    requires second { b.0 < length arena.old }
+    requires different { a.0 ≢ b.0 }
+    ensures { arena.new ≡ slice_set (slice_set arena.old a.0 3) b.0 4 }
+{
+    let entries = arena.entries_mut();
+    let (x, y) = pair_of(entries, a, b);
+    (*x, *y) = (3, 4);
 }
 
 #[test]
@@ -138,6 +156,7 @@ fn goes_round(rt: HostRuntime) -> Result<(), Fail> {
     assert_eq!(rt; items.as_slice(), [2, 3, 4].as_slice());
     assert_eq!(rt; ring.pop_front(), Some(2));
     assert_eq!(rt; ring.fill_repeat(9, 5), 1);
+    shared_by_threads(&ring);
     Ok(())
 }
 

@@ -7,8 +7,12 @@ ghost use Rattle.std.specs.Borrow.{sem};
 ghost use Rattle.pu_index.specs.UnitVec.{short, grown};
 ghost use Rattle.pu_order.specs.declared.error.PolarsUtilsError.TheVariants as refusal;
 
+#[doc(hidden)]
+pub mod in_memory;
+
 use crate::idx::IdxSize;
 use crate::iterators::collect_vec;
+use in_memory::InMemory;
 use pu_order::Result;
 use std::alloc::Global;
 use std::convert::AsSlice;
@@ -19,10 +23,14 @@ use std::{array, fmt, slice};
 pub type IdxVec = UnitVec<IdxSize>;
 
 /// A vector of fewer than 2^31 items, of which the first takes no memory.
+///
+/// What makes one asks that an item takes fewer than 2^63 bytes, which a concrete type shows by
+/// itself. The vector keeps that, so that nothing else asks it.
 #[derive(Drop)]
 pub struct UnitVec<T> {
     inline: Option<T>,
     heap: Vec<T>,
+    in_memory: InMemory<T>,
 }
 
 impl<T> Model for UnitVec<T> {
@@ -42,11 +50,13 @@ impl<T: Copy> UnitVec<T> {
 
     /// A vector without items that has room for one, which takes no memory.
     pub fn new(alloc: Global) -> UnitVec<T>
+        requires { FitsInMemory T.row }
         ensures { result ≡ short [] 1 }
     {
         UnitVec {
             inline: None,
             heap: empty(alloc),
+            in_memory: InMemory::new(),
         }
     }
 
@@ -54,6 +64,7 @@ impl<T: Copy> UnitVec<T> {
     ///
     /// Fails only for want of memory.
     pub fn with_capacity(alloc: Global, capacity: usize) -> Result<UnitVec<T>>
+        requires { FitsInMemory T.row }
         ensures empty { IfOk result (λ v. v ≡ short [] (max 1 capacity)) }
         ensures inline { capacity ≤ 1 → IsOk result }
         ensures memory { OnErr result (result ≡ Err refusal.OutOfMemory) }
@@ -62,7 +73,11 @@ impl<T: Copy> UnitVec<T> {
             return Ok(UnitVec::new(alloc));
         }
         let heap = Vec::with_capacity(alloc, capacity)?;
-        Ok(UnitVec { inline: None, heap })
+        Ok(UnitVec {
+            inline: None,
+            heap,
+            in_memory: InMemory::new(),
+        })
     }
 
     /// How many items there are.
@@ -93,9 +108,9 @@ impl<T: Copy> UnitVec<T> {
 
     /// The items.
     pub fn as_slice(&self) -> &[T]
-        requires { FitsInMemory T.row }
         ensures { result.now ≡ self.now.items }
     {
+        self.in_memory.shows();
         match &self.inline {
             Some(item) => array::from_ref(item).as_slice(),
             None => self.heap.as_slice(),
@@ -104,10 +119,10 @@ impl<T: Copy> UnitVec<T> {
 
     /// The items, to write to.
     pub fn as_mut_slice(&mut self) -> &mut [T]
-        requires { FitsInMemory T.row }
         ensures* writes_back { sem 𝓛 (lends_items T.row self.entry result) }
         ensures value { result.now ≡ self.old.items }
     {
+        self.in_memory.shows();
         if self.inline.is_some() {
             self.inline.as_mut_slice()
         } else {
@@ -117,7 +132,6 @@ impl<T: Copy> UnitVec<T> {
 
     /// Goes over the items.
     pub fn iter(&self) -> slice::Iter<'_, T>
-        requires { FitsInMemory T.row }
         ensures { iter_rest result ≡ self.now.items }
     {
         self.as_slice().iter()
@@ -125,7 +139,6 @@ impl<T: Copy> UnitVec<T> {
 
     /// Goes over the items, each of which may be written to.
     pub fn iter_mut(&mut self) -> slice::IterMut<'_, T>
-        requires { FitsInMemory T.row }
         ensures* writes_back { sem 𝓛 (lends_iter T.row self.entry result) }
         ensures rest { iter_mut_rest result ≡ self.old.items }
     {
@@ -240,11 +253,13 @@ impl<T: Copy> UnitVec<T> {
 
     /// A vector of one item, which takes no memory.
     pub fn of_one(alloc: Global, item: T) -> UnitVec<T>
+        requires { FitsInMemory T.row }
         ensures { result ≡ short (item ∷ []) 1 }
     {
         UnitVec {
             inline: Some(item),
             heap: empty(alloc),
+            in_memory: InMemory::new(),
         }
     }
 
@@ -252,7 +267,8 @@ impl<T: Copy> UnitVec<T> {
     ///
     /// Fails only for want of memory.
     pub fn from_elem(alloc: Global, item: T, n: usize) -> Result<UnitVec<T>>
-        requires { n < 2 ^ 31 }
+        requires fits { FitsInMemory T.row }
+        requires short { n < 2 ^ 31 }
         ensures same { IfOk result (λ v. v.items ≡ replicate n item) }
         ensures memory { OnErr result (result ≡ Err refusal.OutOfMemory) }
     {
@@ -265,7 +281,8 @@ impl<T: Copy> UnitVec<T> {
 
     /// The items of a vector, whose memory is kept where it has room for more than one.
     pub fn from_vec(alloc: Global, mut v: Vec<T>) -> UnitVec<T>
-        requires { length v.items < 2 ^ 31 }
+        requires fits { FitsInMemory T.row }
+        requires short { length v.items < 2 ^ 31 }
         ensures { result ≡ short v.items (max 1 (vec_capacity v)) }
     {
         if v.capacity() <= 1 {
@@ -273,11 +290,13 @@ impl<T: Copy> UnitVec<T> {
             return UnitVec {
                 inline,
                 heap: empty(alloc),
+                in_memory: InMemory::new(),
             };
         }
         UnitVec {
             inline: None,
             heap: v,
+            in_memory: InMemory::new(),
         }
     }
 
@@ -285,7 +304,8 @@ impl<T: Copy> UnitVec<T> {
     ///
     /// Fails only for want of memory.
     pub fn from_slice(alloc: Global, items: &[T]) -> Result<UnitVec<T>>
-        requires { length items.now < 2 ^ 31 }
+        requires fits { FitsInMemory T.row }
+        requires short { length items.now < 2 ^ 31 }
         ensures same { IfOk result (λ v. v.items ≡ items.now) }
         ensures inline { length items.now ≤ 1 → IfOk result (λ v. v.capacity ≡ 1) × IsOk result }
         ensures memory { OnErr result (result ≡ Err refusal.OutOfMemory) }
@@ -294,10 +314,15 @@ impl<T: Copy> UnitVec<T> {
             return Ok(UnitVec {
                 inline: items.first().copied(),
                 heap: empty(alloc),
+                in_memory: InMemory::new(),
             });
         }
         let heap = Vec::from_slice(alloc, items)?;
-        Ok(UnitVec { inline: None, heap })
+        Ok(UnitVec {
+            inline: None,
+            heap,
+            in_memory: InMemory::new(),
+        })
     }
 
     /// An equal vector.
@@ -308,11 +333,9 @@ impl<T: Copy> UnitVec<T> {
         ensures same { IfOk result (λ v. v.items ≡ self.now.items) }
         ensures memory { OnErr result (result ≡ Err refusal.OutOfMemory) }
     {
+        self.in_memory.shows();
         match self.inline {
-            Some(item) => Ok(UnitVec {
-                inline: Some(item),
-                heap: empty(alloc),
-            }),
+            Some(item) => Ok(UnitVec::of_one(alloc, item)),
             None => UnitVec::from_slice(alloc, self.heap.as_slice()),
         }
     }
@@ -326,10 +349,10 @@ fn empty<T>(alloc: Global) -> Vec<T>
     Vec::new(alloc)
 }
 
-impl AsSlice<IdxSize> for IdxVec {
+impl<T: Copy> AsSlice<T> for UnitVec<T> {
     ghost items = { λ v. v.items };
 
-    fn as_slice(&self) -> &[IdxSize] {
+    fn as_slice(&self) -> &[T] {
         UnitVec::as_slice(self)
     }
 }
