@@ -1,5 +1,6 @@
 pub mod CallsPush
 pub mod InMemory
+pub mod Marks
 pub mod Padded
 pub mod Pairings
 pub mod Pairs

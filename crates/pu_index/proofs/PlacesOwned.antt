@@ -1,5 +1,5 @@
 -- What the walks of the functions with a pointer share. Assumes `Logic`.
---     word_had, word_made, mark_had, mark_made      what the fields of a `Places` and of a `Deed` own
+--     word_had, word_made      what the fields of a `Places` own
 --     slot_out, slot_in, run_seen      one place is taken out of the row and put back, and a run of places is seen
 --     of_room, to_room      room for an array is a row of empty places
 use mathlib.Core.Path.{◌≡◌, refl, sym, ap, subst, ◌∙◌}
@@ -7,8 +7,8 @@ use Prim.Native.Nat.{ℕ, zero, suc, ◌+◌, ◌*◌, ◌<◌, ◌≤◌}
 use native.Mathlib.Omega.{arith}
 use native.Mathlib.Nat.{zero-mul, suc-mul}
 use mathlib.Core.List.{List, [], ◌∷◌, ◌++◌, map}
-use lib.ListN.{length, take, drop, set, get_or, replicate, take-append-drop, length-take, length-drop}
-use lib.Seq.{drop-cons, drop-drop, set_split}
+use lib.ListN.{length, take, drop, set, get_or, replicate, take-append-drop, length-take}
+use lib.Seq.{drop-cons, set_split}
 use seplogic.Ra.Ura.{Ura}
 use base.Fraction.{full_share}
 use mir.Syntax.{Ty, ty_array, ty_ptr}
@@ -16,7 +16,6 @@ use mir.Val.{Val, vptr, vstruct, vcons, vnil, of_list}
 use base.Logic.{SProp, ent, sep, emp, ex, guard, via, snd∗, id⊢, mono_r}
 use base.Fml.{Fml, Lft, Share, ftrue, fsep, fat, flft, fhide, froom}
 use types.Logic.{Logic, sem}
-use types.SemTy.{cells}
 use contract.Monad.{fact, fact_i}
 use types.Kit.{Item, Goal, Soaks, Seq, Step, step, prop, ‵, raw, some, ◌⊛◌, ◌$◌, ◌∵◌, !, qed, by, move, keep, drop as skip, use0, use1, use2, pick, split, check, show, frame, fsplit, fjoin, fpick, fpack, feq_i, feq_l, rewrite, done}
 use denote.RattleType.{RattleType, Valss}
@@ -24,16 +23,14 @@ use denote.Laws.{Typed, Is, shows}
 use denote.Param.{param, layout}
 use denote.Param.Laws.{Laws, param_laws}
 use denote.Copied.{plain_Copied}
-use denote.Memory.{cell_at, part_at, hidden_shr, mem}
+use denote.Memory.{cell_at, part_at, hidden_shr}
 use denote.Opens.{Shut, unhide}
 use denote.RawPtr.{Ptr, RawPtr, block_ptr, coded_ptr, ptr_own, rawptr_pure, ptr_val}
-use denote.Shadow.{makes_shadow}
 use denote.Slice.{elements_shared}
 use denote.Steps.{nothing, peeks, looks, shuts}
 use denote.Struct.Laws.{RawPtr-laws}
 use denote.Struct.Lending.{lent_out}
-use denote.Struct.Struct.{Shape, Struct, within}
-use denote.Struct.Owning.{shape}
+use denote.Struct.Struct.{Struct, within}
 use denote.Struct.Declared as Declared
 use denote.Struct.Tuple.{Tuple, tuple_type}
 use borrow.Table.OneValue.{part_in, part_out}
@@ -42,8 +39,8 @@ use Rattle.std.specs.Mem.{type_size}
 use Rattle.std.proofs.mem.Param.{El, R, el_x, elτ}
 use Rattle.std.proofs.RcSteps.{Good, word}
 use Rattle.pu_index.specs.PlacesOwned.{slot, slots, slot_lent, slots_lent, places_lent}
-use Rattle.std.specs.contracts.marker.PhantomData as marker
 use Rattle.pu_index.specs.contracts.ring.places.Places as P-type
+use Rattle.pu_index.proofs.Marks.{one_field}
 
 module _ (E : El) where
   abbrev pub Pl : RattleType
@@ -55,21 +52,9 @@ module _ (E : El) where
   abbrev pub Place : Type 0
   Place = Option (el_x E)
 
-abbrev one_field : RattleType → Shape
-one_field F = record { name = []; args = []; types = []; fields = F ∷ [] }
-
--- the one field of a `Places`, and the one of a `Deed`, which takes no bytes
+-- the one field of a `Places`
 abbrev pub Word : RattleType
 Word = Struct (one_field RawPtr)
-
-abbrev pub Mark : RattleType
-Mark = Struct (one_field (marker.the_row RawPtr))
-
-abbrev pub mark : Val
-mark = vstruct (vcons (vstruct vnil) vnil)
-
-pub mark_made : {M : Type 1} {𝓤 : Ura M} (𝓛 : Logic 𝓤) → ent 𝓤 (emp 𝓤) (sem 𝓛 (Mark.own_val (record {}, tt) (mark ∷ [])))
-mark_made 𝓛 = makes_shadow 𝓛 (Mark.own_val (record {}, tt) (mark ∷ [])) (λ vss. (tt, ((λ uss. (tt, tt)), tt))) ((vstruct vnil ∷ [], tt), (refl, ((tt, (refl, tt)), tt)))
 
 module _ {M : Type 1} {𝓤 : Ura M} {𝓛 : Logic 𝓤} {K : Type 0} {Γ : List (Item 𝓤)} {G : Goal 𝓤 𝓛.H} where
   pub word_had : K → (c : Ptr) (vs : List Val) → (vs ≡ word c ∷ [] → Seq K 𝓛 Γ G) → Seq K 𝓛 (‵ (Word.own_val (c, tt) vs) ∷ Γ) G
@@ -79,10 +64,6 @@ module _ {M : Type 1} {𝓤 : Ura M} {𝓛 : Logic 𝓤} {K : Type 0} {Γ : List
   word_made t c = step (λ s.
       nothing t $ feq_i t (List Val) (ptr_val c ∷ []) (ptr_val c ∷ []) refl $ fjoin t $ feq_i t (List Val) (word c ∷ []) (word c ∷ []) refl $ fjoin t $
       fpack t (Valss (RawPtr ∷ [])) (within (one_field RawPtr) (c, tt) (word c ∷ [])) (ptr_val c ∷ [], tt) $ s)
-
-  pub mark_had : K → (vs : List Val) → (vs ≡ mark ∷ [] → Seq K 𝓛 Γ G) → Seq K 𝓛 (‵ (Mark.own_val (record {}, tt) vs) ∷ Γ) G
-  mark_had t vs k = fpick t (λ vss. fsplit t $ feq_l t (λ ev. fsplit t $ fpick t (λ uss. fsplit t $ feq_l t (λ e. skip t $ skip t $
-      k (subst (λ (ws : List Val). vs ≡ vstruct (of_list (ws ++ [])) ∷ []) e ev)))))
 
 module _ {M : Type 1} {𝓤 : Ura M} {𝓛 : Logic 𝓤} {K : Type 0} {Γ : List (Item 𝓤)} where
   -- an `ensures` of two facts

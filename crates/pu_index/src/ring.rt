@@ -38,7 +38,7 @@ impl<T> Model for FixedRingBuffer<T> {
     ghost invariant = { λ r. IsRing r };
 }
 
-/// The place `i` on from `start`, where the block of `capacity` places ends and begins again.
+/// The place that lies `i` on from `start`, round the end of a block of `capacity` places.
 fn wrapped(start: usize, i: usize, capacity: usize) -> usize
     requires { (start < capacity) × (i ≤ capacity) × (capacity < 2 ^ 63) }
     ensures { Wraps start i capacity result }

@@ -10,6 +10,7 @@ use std::alloc::Global;
 use std::cmp::Ordering;
 use std::convert::AsSlice;
 use std::io::SeekFrom;
+use std::rc::Rc;
 use std::test::Fail;
 
 #[test]
@@ -157,6 +158,20 @@ fn goes_round(rt: HostRuntime) -> Result<(), Fail> {
     assert_eq!(rt; ring.pop_front(), Some(2));
     assert_eq!(rt; ring.fill_repeat(9, 5), 1);
     shared_by_threads(&ring);
+    Ok(())
+}
+
+#[test]
+fn drops_its_items(rt: HostRuntime) -> Result<(), Fail> {
+    let alloc = rt.alloc();
+    let item = Rc::new(alloc, 5)?;
+    let mut ring = FixedRingBuffer::new(alloc, 2)?;
+    assert_eq!(rt; ring.push(item.clone()?), Some(()));
+    assert_eq!(rt; ring.push(item.clone()?), Some(()));
+    assert_eq!(rt; ring.push(item.clone()?), None);
+    assert_eq!(rt; Rc::strong_count(&item), 3);
+    drop(ring);
+    assert_eq!(rt; Rc::strong_count(&item), 1);
     Ok(())
 }
 

@@ -1,4 +1,4 @@
-use Rattle.std.proofs.Common.{◌<◌, arith}
+use Rattle.std.proofs.Common.{arith}
 use Rattle.pu_index.proofs.Rings.{first_place, first_taken}
 use Rattle.pu_index.proofs.ring.FixedRingBuffer.pop_front.Goals as goal
 

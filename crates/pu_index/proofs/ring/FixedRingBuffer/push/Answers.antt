@@ -1,4 +1,4 @@
-use Rattle.std.proofs.Common.{◌<◌, ap, ◌∙◌, arith}
+use Rattle.std.proofs.Common.{◌<◌, ap, arith}
 use Rattle.pu_index.specs.FixedRing.{ring}
 use Rattle.pu_index.proofs.Rings.{place_after, put_last}
 use Rattle.pu_index.proofs.ring.FixedRingBuffer.push.Goals as goal

@@ -45,7 +45,8 @@ use Rattle.std.specs.Prelude.{None}
 use Rattle.std.proofs.mem.Param.{El, R, elτ}
 use Rattle.std.proofs.RawLayout.{as_written}
 use Rattle.pu_index.specs.PlacesOwned.{slots}
-use Rattle.pu_index.proofs.PlacesOwned.{Pl, Mark, sz, mark, mark_made, word_made}
+use Rattle.pu_index.proofs.Marks.{Mark, mark, mark_made}
+use Rattle.pu_index.proofs.PlacesOwned.{Pl, sz, word_made}
 use base.Fml.{Incl-trans}
 use lib.ListN.{replicate, length-replicate}
 use mir.Syntax.{ty_array}

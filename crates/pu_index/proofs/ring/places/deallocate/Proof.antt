@@ -41,7 +41,8 @@ use Rattle.std.specs.Prelude.{None}
 use Rattle.std.proofs.mem.Param.{El, R, elτ}
 use Rattle.std.proofs.RawLayout.{as_raw}
 use Rattle.pu_index.specs.PlacesOwned.{places_owned}
-use Rattle.pu_index.proofs.PlacesOwned.{Pl, sz, Place, mark, mark_had, word_had}
+use Rattle.pu_index.proofs.Marks.{mark, mark_had}
+use Rattle.pu_index.proofs.PlacesOwned.{Pl, sz, Place, word_had}
 use base.Fml.{Incl-trans}
 use lib.Dec.{T}
 use lib.ListN.{replicate, length-replicate}

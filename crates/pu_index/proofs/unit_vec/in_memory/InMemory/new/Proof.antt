@@ -1,23 +1,22 @@
 -- `new` is told the bound, and keeps it. Assumes `Logic`.
-use mathlib.Core.Path.{◌≡◌, refl}
-use Prim.Native.Nat.{◌<◌, ◌^◌}
-use mathlib.Core.List.{List, [], ◌∷◌}
+use mathlib.Core.Path.{refl}
+use Prim.Native.Nat.{◌^◌}
+use mathlib.Core.List.{[], ◌∷◌}
 use seplogic.Ra.Ura.{Ura}
 use mir.Syntax.{Fn}
 use mir.MapTy.{inst_fn}
-use mir.Val.{Val, vstruct, vcons, vnil}
+use mir.Val.{Val}
 use base.Logic.{SProp, ent, emp}
-use base.Fml.{ftrue, flt}
+use base.Fml.{ftrue}
 use prog.Wp.{Calls, Loops, WpFn, Tables}
 use types.Logic.{Logic}
 use contract.Monad.{fact}
 use contract.Running.{tables, tables_of}
 use sound.WpLaws.{WpFn-mono}
-use types.Kit.{Item, ⋆, ‵, ◌⊛◌, ◌$◌, ◌∵◌, !, qed, move, keep, use0, join, fjoin, flt_i, suffices, done}
+use types.Kit.{‵, ◌$◌, ◌∵◌, !, qed, move, keep, use0, join, fjoin, flt_i, suffices, done}
 use types.Part.{agg}
 use types.Run.{and_then, no_more, returns, enter}
 use types.ByLocal.{alloc_all, pass_all, free_all, look_at, get, sets}
-use denote.RattleType.{RattleType, owns}
 use denote.Signature.{plain}
 use denote.Steps.{nothing}
 use denote.Triple.Carry.{spared}
@@ -28,7 +27,8 @@ use denote.Triple.Table.{entered, run_framed}
 use denote.Triple.Walked.{needs, Stays, walk_of, ends_at, walk_Meets}
 use Rattle.std.specs.Mem.{FitsInMemory, type_size}
 use Rattle.std.proofs.mem.Param.{El, R, args}
-use Rattle.pu_index.proofs.InMemory.{Kept, Mark, mark, mark_made}
+use Rattle.pu_index.proofs.InMemory.{Kept}
+use Rattle.pu_index.proofs.Marks.{Mark, mark, mark_made}
 use Rattle.pu_index.specs.contracts.unit_vec.in_memory.InMemory.new.Key.{name as #self}
 use Rattle.pu_index.proofs.unit_vec.in_memory.InMemory.new.Statement as stated
 use Rattle.pu_index.proofs.unit_vec.in_memory.InMemory.new.Code as code
