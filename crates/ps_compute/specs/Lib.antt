@@ -1,4 +1,5 @@
 -- The definitions that this crate's contracts cite beside those of `ps_frame`.
+pub mod Led
 pub mod Nullable
 pub mod Rows
 pub mod Runs
