@@ -133,7 +133,7 @@ fn once(
     arena: &Arena<AExpr>,
     df: &DataFrame,
 ) -> PolarsResult<Evaluated>
-    requires entries { arena.now ≡ bench_entries }
+    requires entries { arena.now.items ≡ bench_entries }
     requires schema { df.now.schema ≡ bench_schema }
 {
     evaluate(alloc, Node(work.number()), arena, df)

@@ -140,7 +140,7 @@ fn by_both<F: Functions, L: Ledger>(
     requires name { blank.name ≡ L.name }
     requires parts { blank.parts ≡ L.parts }
     requires some { 0 < L.parts }
-    requires nodes { (df : Frame) × (nodes ≡ tested_nodes df) }
+    requires nodes { (df : Frame) × (nodes.items ≡ tested_nodes df) }
     requires select { select.now ≡ kind.Select tested_select }
 {
     let mut steps = Steps::<L>::new(blank);

@@ -70,7 +70,7 @@ fn evaluated_in(
     arena: &Arena<AExpr>,
     df: &DataFrame,
 ) -> Option<Evaluated>
-    requires entries { arena.now ≡ tested_entries }
+    requires entries { arena.now.items ≡ tested_entries }
     requires schema { df.now.schema ≡ tested_schema }
     requires number { number < 8 }
 {
