@@ -86,7 +86,7 @@ fn sorted(alloc: Global) -> Result<AExpr, PolarsUtilsError>
 }
 
 fn expressions(alloc: Global) -> Result<Arena<AExpr>, PolarsUtilsError>
-    ensures { IfOk result (λ arena. arena ≡ bench_entries) }
+    ensures { IfOk result (λ arena. arena.items ≡ bench_entries) }
 {
     let mut arena = Arena::new(alloc);
     arena.add(column(alloc, "few")?)?;

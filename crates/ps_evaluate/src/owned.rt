@@ -39,7 +39,7 @@ impl Model for OwnedMap {
 
     ghost Value = { MapParts };
 
-    ghost view = { λ m. record { kind = m.kind; exprs = m.exprs } };
+    ghost view = { λ m. record { kind = m.kind; exprs = m.exprs.items } };
 }
 
 impl OwnedMap {

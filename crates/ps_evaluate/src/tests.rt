@@ -92,7 +92,7 @@ fn selection(alloc: Global) -> Result<Items<ExprIR>, Fail>
 
 // A scan, the select and a sink.
 fn plan(alloc: Global, df: DataFrame) -> Result<Arena<IR>, Fail>
-    ensures { IfOk result (λ nodes. nodes ≡ tested_nodes df) }
+    ensures { IfOk result (λ nodes. nodes.items ≡ tested_nodes df) }
 {
     let expr = selection(alloc)?;
     let mut nodes = Arena::new(alloc);

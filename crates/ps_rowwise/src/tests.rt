@@ -42,7 +42,7 @@ fn table(alloc: Global) -> Result<DataFrame, FrameError>
 }
 
 fn expressions(alloc: Global) -> Result<Arena<AExpr>, PolarsUtilsError>
-    ensures { IfOk result (λ arena. arena ≡ tested_entries) }
+    ensures { IfOk result (λ arena. arena.items ≡ tested_entries) }
 {
     let mut arena = Arena::new(alloc);
     let a = arena.add(AExpr::Column(PlSmallStr::from_str(alloc, "a")?))?;

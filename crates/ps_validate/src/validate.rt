@@ -40,7 +40,7 @@ impl Model for Valid {
 
     ghost Value = { ValidNodes };
 
-    ghost view = { λ v. record { root = v.root; nodes = v.ir; schemas = v.schemas } };
+    ghost view = { λ v. record { root = v.root; nodes = v.ir.items; schemas = v.schemas } };
 }
 
 impl Valid {
@@ -53,7 +53,7 @@ impl Valid {
 
     /// The nodes.
     pub fn ir(&self) -> &Arena<IR>
-        ensures { result.now ≡ self.now.nodes }
+        ensures { result.now.items ≡ self.now.nodes }
     {
         &self.ir
     }
