@@ -86,7 +86,7 @@ fn sorted(alloc: Global) -> Result<AExpr, PolarsUtilsError>
 }
 
 fn expressions(alloc: Global) -> Result<Arena<AExpr>, PolarsUtilsError>
-    ensures { IfOk result (λ arena. arena ≡ bench_entries) }
+    ensures { IfOk result (λ arena. arena.items ≡ bench_entries) }
 {
     let mut arena = Arena::new(alloc);
     arena.add(column(alloc, "few")?)?;
@@ -133,7 +133,7 @@ fn once(
     arena: &Arena<AExpr>,
     df: &DataFrame,
 ) -> PolarsResult<Evaluated>
-    requires entries { arena.now ≡ bench_entries }
+    requires entries { arena.now.items ≡ bench_entries }
     requires schema { df.now.schema ≡ bench_schema }
 {
     evaluate(alloc, Node(work.number()), arena, df)

@@ -92,7 +92,7 @@ fn once<F: Functions>(
     exprs: &Arena<AExpr>,
     functions: &F,
 ) -> PolarsResult<DataFrame>
-    requires { IsValidWith (functions_of (F.counted functions.now) F.streams F.answer F.declared) valid.now exprs.now }
+    requires { IsValidWith (functions_of (F.counted functions.now) F.streams F.answer F.declared) valid.now exprs.now.items }
 {
     node_table(alloc, valid.root(), valid, exprs, functions, 4)
 }
@@ -104,7 +104,7 @@ fn repeat_valid<F: Functions>(
     functions: &F,
     times: u32,
 ) -> PolarsResult<DataFrame>
-    requires { IsValidWith (functions_of (F.counted functions.now) F.streams F.answer F.declared) valid.now exprs.now }
+    requires { IsValidWith (functions_of (F.counted functions.now) F.streams F.answer F.declared) valid.now exprs.now.items }
 {
     let mut last = once(alloc, valid, exprs, functions)?;
     for _ in 1..times {

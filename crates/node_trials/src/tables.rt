@@ -54,9 +54,9 @@ pub fn node_table<F: Functions>(
     functions: &F,
     depth: usize,
 ) -> PolarsResult<DataFrame>
-    requires valid { IsValidWith (functions_of (F.counted functions.now) F.streams F.answer F.declared) valid.now exprs.now }
-    requires reached { Reached (plan_with valid.now exprs.now) node.0 }
-    ensures schema { IfOk result (λ f. f.schema ≡ plan_schemas (functions_of (F.counted functions.now) F.streams F.answer F.declared) (plan_with valid.now exprs.now) node.0) }
+    requires valid { IsValidWith (functions_of (F.counted functions.now) F.streams F.answer F.declared) valid.now exprs.now.items }
+    requires reached { Reached (plan_with valid.now exprs.now.items) node.0 }
+    ensures schema { IfOk result (λ f. f.schema ≡ plan_schemas (functions_of (F.counted functions.now) F.streams F.answer F.declared) (plan_with valid.now exprs.now.items) node.0) }
 {
     if depth == 0 {
         let why = Why::Limits;

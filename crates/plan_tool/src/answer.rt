@@ -62,8 +62,8 @@ fn answer_to<R: Threads + Wait + Sync, F: Functions, G: Gate>(
     functions: &F,
     gate: &G,
 ) -> Result<Vec<u8>, Outcome>
-    ensures text { IfOk result (λ text. IsPlanText (functions_of (F.counted functions.now) F.streams F.answer F.declared) (plan_of document.root document.nodes document.exprs) text.items) }
-    ensures outcome { IfErr result (IsPlanOutcome (functions_of (F.counted functions.now) F.streams F.answer F.declared) (plan_of document.root document.nodes document.exprs)) }
+    ensures text { IfOk result (λ text. IsPlanText (functions_of (F.counted functions.now) F.streams F.answer F.declared) (plan_of document.root document.nodes.items document.exprs.items) text.items) }
+    ensures outcome { IfErr result (IsPlanOutcome (functions_of (F.counted functions.now) F.streams F.answer F.declared) (plan_of document.root document.nodes.items document.exprs.items)) }
 {
     match table_of(rt, alloc, document, options, serial, functions, gate) {
         Ok(table) => text_of(alloc, &table),
@@ -91,8 +91,8 @@ fn table_of<R: Threads + Wait + Sync, F: Functions, G: Gate>(
     functions: &F,
     gate: &G,
 ) -> PolarsResult<DataFrame>
-    ensures table { IfOk result (IsQueryAnswer (functions_of (F.counted functions.now) F.streams F.answer F.declared) (plan_of document.root document.nodes document.exprs)) }
-    ensures error { IfErr result (IsQueryError (functions_of (F.counted functions.now) F.streams F.answer F.declared) (plan_of document.root document.nodes document.exprs)) }
+    ensures table { IfOk result (IsQueryAnswer (functions_of (F.counted functions.now) F.streams F.answer F.declared) (plan_of document.root document.nodes.items document.exprs.items)) }
+    ensures error { IfErr result (IsQueryError (functions_of (F.counted functions.now) F.streams F.answer F.declared) (plan_of document.root document.nodes.items document.exprs.items)) }
 {
     let Document {
         nodes,

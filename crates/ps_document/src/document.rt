@@ -40,7 +40,7 @@ pub enum DocumentError {
 /// Each error but `OutOfMemory` comes only for its reason. A table of more than 2^32 - 1 rows is out
 /// of memory too.
 pub fn read_document(alloc: Global, bytes: Vec<u8>) -> Result<Document, DocumentError>
-    ensures document { IfOk result (λ d. IsDocumentOf (record { nodes = d.nodes; exprs = d.exprs; root = d.root }) bytes.items) }
+    ensures document { IfOk result (λ d. IsDocumentOf (record { nodes = d.nodes.items; exprs = d.exprs.items; root = d.root }) bytes.items) }
     ensures bad_json { result ≡ Err DocumentError.BadJson → IsJson bytes.items → ⊥ }
     ensures json { result ≡ Err DocumentError.BadDocument → IsJson bytes.items }
     ensures bad_document { result ≡ Err DocumentError.BadDocument → IsDocument bytes.items → ⊥ }
@@ -57,7 +57,7 @@ pub fn read_document(alloc: Global, bytes: Vec<u8>) -> Result<Document, Document
 
 /// The document that a value is.
 fn document_of(alloc: Global, value: Value) -> Result<Document, DocumentError>
-    ensures document { IfOk result (λ d. (tables : List Frame) × IsPlanJson tables (record { nodes = d.nodes; exprs = d.exprs; root = d.root }) (view value)) }
+    ensures document { IfOk result (λ d. (tables : List Frame) × IsPlanJson tables (record { nodes = d.nodes.items; exprs = d.exprs.items; root = d.root }) (view value)) }
     ensures json { result ≢ Err DocumentError.BadJson }
     ensures none { result ≡ Err DocumentError.BadDocument → (tables : List Frame) (plan : Plan) → IsPlanJson tables plan (view value) → ⊥ }
 {
@@ -84,7 +84,7 @@ struct Members {
 ///
 /// Fails only for want of memory.
 fn plan_of(alloc: Global, members: Members) -> Result<Option<Document>, AllocError>
-    ensures some { IfOk result (λ o. IfSome o (λ d. (tables : List Frame) × IsPlanJson tables (record { nodes = d.nodes; exprs = d.exprs; root = d.root }) (four_members (view members.tables) (view members.exprs) (view members.nodes) (view members.root)))) }
+    ensures some { IfOk result (λ o. IfSome o (λ d. (tables : List Frame) × IsPlanJson tables (record { nodes = d.nodes.items; exprs = d.exprs.items; root = d.root }) (four_members (view members.tables) (view members.exprs) (view members.nodes) (view members.root)))) }
     ensures none { IfOk result (λ o. IfNone o ((tables : List Frame) (plan : Plan) → IsPlanJson tables plan (four_members (view members.tables) (view members.exprs) (view members.nodes) (view members.root)) → ⊥)) }
 {
     let Members {
@@ -114,7 +114,7 @@ fn plan_of(alloc: Global, members: Members) -> Result<Option<Document>, AllocErr
 ///
 /// Fails only for want of memory.
 fn arena_of<T: Drop>(alloc: Global, items: Vec<T>) -> Result<Arena<T>, AllocError>
-    ensures { IfOk result (λ arena. arena ≡ items.items) }
+    ensures { IfOk result (λ arena. arena.items ≡ items.items) }
 {
     let Ok(mut arena) = Arena::with_capacity(alloc, items.len()) else {
         return Err(AllocError);

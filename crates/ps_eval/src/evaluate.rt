@@ -25,12 +25,12 @@ use std::alloc::{AllocError, Global};
 
 /// The entry of an expression that has a kind over the table, and so have the expressions that it takes.
 fn typed_entry<'a>(expr: Node, arena: &'a Arena<AExpr>, df: &DataFrame) -> &'a AExpr
-    requires expression { IsExpression arena.now expr }
-    requires kind { IsSome (kind_over df.now.schema (tree_at arena.now expr)) }
-    ensures tree { tree_at arena.now expr ≡ entry_tree (tree_at arena.now) (Some result.now) }
-    ensures complete { IsComplete (entry_tree (tree_at arena.now) (Some result.now)) }
-    ensures size { tree_size (tree_at arena.now expr) ≡ tree_size (entry_tree (tree_at arena.now) (Some result.now)) }
-    ensures kinds { TakesKinds df.now.schema (tree_at arena.now) result.now }
+    requires expression { IsExpression arena.now.items expr }
+    requires kind { IsSome (kind_over df.now.schema (tree_at arena.now.items expr)) }
+    ensures tree { tree_at arena.now.items expr ≡ entry_tree (tree_at arena.now.items) (Some result.now) }
+    ensures complete { IsComplete (entry_tree (tree_at arena.now.items) (Some result.now)) }
+    ensures size { tree_size (tree_at arena.now.items expr) ≡ tree_size (entry_tree (tree_at arena.now.items) (Some result.now)) }
+    ensures kinds { TakesKinds df.now.schema (tree_at arena.now.items) result.now }
 {
     let _schema = df.schema();
     entry(expr, arena)
@@ -46,9 +46,9 @@ pub fn part_of(
     arena: &Arena<AExpr>,
     df: &DataFrame,
 ) -> Result<Part, AllocError>
-    requires expression { IsExpression arena.now expr }
-    requires kind { IsSome (kind_over df.now.schema (tree_at arena.now expr)) }
-    ensures { IfOk result (Evaluates df.now (tree_at arena.now expr)) }
+    requires expression { IsExpression arena.now.items expr }
+    requires kind { IsSome (kind_over df.now.schema (tree_at arena.now.items expr)) }
+    ensures { IfOk result (Evaluates df.now (tree_at arena.now.items expr)) }
 {
     match typed_entry(expr, arena, df) {
         AExpr::Column(name) => column_part(alloc, name, df),
@@ -149,9 +149,9 @@ fn parts_of(
     arena: &Arena<AExpr>,
     df: &DataFrame,
 ) -> Result<Vec<Part>, AllocError>
-    requires expressions { AreComplete (trees_of (tree_at arena.now) exprs.now) }
-    requires kinds { IsTrue (have_kinds df.now.schema (trees_of (tree_at arena.now) exprs.now)) }
-    ensures { IfOk result (λ parts. EvaluateAll df.now (trees_of (tree_at arena.now) exprs.now) parts.items) }
+    requires expressions { AreComplete (trees_of (tree_at arena.now.items) exprs.now) }
+    requires kinds { IsTrue (have_kinds df.now.schema (trees_of (tree_at arena.now.items) exprs.now)) }
+    ensures { IfOk result (λ parts. EvaluateAll df.now (trees_of (tree_at arena.now.items) exprs.now) parts.items) }
 {
     let mut parts = Vec::with_capacity(alloc, exprs.len())?;
     for expr in exprs {
@@ -171,10 +171,10 @@ pub fn evaluate(
     arena: &Arena<AExpr>,
     df: &DataFrame,
 ) -> PolarsResult<Evaluated>
-    requires expression { IsExpression arena.now expr }
-    requires kind { IsSome (kind_over df.now.schema (tree_at arena.now expr)) }
-    ensures stands { IfOk result (λ evaluated. (node : ℕ) → StandsFor evaluated (eval node (whole df.now) (tree_at arena.now expr))) }
-    ensures kind { IfOk result (λ evaluated. kind_over df.now.schema (tree_at arena.now expr) ≡ Some evaluated.dtype) }
+    requires expression { IsExpression arena.now.items expr }
+    requires kind { IsSome (kind_over df.now.schema (tree_at arena.now.items expr)) }
+    ensures stands { IfOk result (λ evaluated. (node : ℕ) → StandsFor evaluated (eval node (whole df.now) (tree_at arena.now.items expr))) }
+    ensures kind { IfOk result (λ evaluated. kind_over df.now.schema (tree_at arena.now.items expr) ≡ Some evaluated.dtype) }
     ensures memory { OnErr result (result ≡ Err PolarsError.OutOfMemory) }
 {
     match part_of(alloc, expr, arena, df) {

@@ -20,9 +20,9 @@ pub fn copy_expr(
     from: &Arena<AExpr>,
     into: &mut Arena<AExpr>,
 ) -> Result<Node>
-    requires { IsExpression from.now expr }
-    ensures tree { IfOk result (λ n. tree_at into.new n ≡ tree_at from.now expr) }
-    ensures kept { OnOk result (KeepsTrees into.old into.new) }
+    requires { IsExpression from.now.items expr }
+    ensures tree { IfOk result (λ n. tree_at into.new.items n ≡ tree_at from.now.items expr) }
+    ensures kept { OnOk result (KeepsTrees into.old.items into.new.items) }
     ensures memory { OnErr result (result ≡ Err PolarsUtilsError.OutOfMemory) }
 {
     match entry(expr, from) {
@@ -166,11 +166,11 @@ fn copy_two(
     from: &Arena<AExpr>,
     into: &mut Arena<AExpr>,
 ) -> Result<(Node, Node)>
-    requires first { IsExpression from.now first }
-    requires second { IsExpression from.now second }
-    ensures first { IfOk result (λ n. tree_at into.new n.0 ≡ tree_at from.now first) }
-    ensures second { IfOk result (λ n. tree_at into.new n.1 ≡ tree_at from.now second) }
-    ensures kept { OnOk result (KeepsTrees into.old into.new) }
+    requires first { IsExpression from.now.items first }
+    requires second { IsExpression from.now.items second }
+    ensures first { IfOk result (λ n. tree_at into.new.items n.0 ≡ tree_at from.now.items first) }
+    ensures second { IfOk result (λ n. tree_at into.new.items n.1 ≡ tree_at from.now.items second) }
+    ensures kept { OnOk result (KeepsTrees into.old.items into.new.items) }
     ensures memory { OnErr result (result ≡ Err PolarsUtilsError.OutOfMemory) }
 {
     let one = copy_expr(alloc, first, from, into)?;
@@ -187,13 +187,13 @@ fn copy_three(
     from: &Arena<AExpr>,
     into: &mut Arena<AExpr>,
 ) -> Result<(Node, Node, Node)>
-    requires first { IsExpression from.now first }
-    requires second { IsExpression from.now second }
-    requires third { IsExpression from.now third }
-    ensures first { IfOk result (λ n. tree_at into.new n.0 ≡ tree_at from.now first) }
-    ensures second { IfOk result (λ n. tree_at into.new n.1 ≡ tree_at from.now second) }
-    ensures third { IfOk result (λ n. tree_at into.new n.2 ≡ tree_at from.now third) }
-    ensures kept { OnOk result (KeepsTrees into.old into.new) }
+    requires first { IsExpression from.now.items first }
+    requires second { IsExpression from.now.items second }
+    requires third { IsExpression from.now.items third }
+    ensures first { IfOk result (λ n. tree_at into.new.items n.0 ≡ tree_at from.now.items first) }
+    ensures second { IfOk result (λ n. tree_at into.new.items n.1 ≡ tree_at from.now.items second) }
+    ensures third { IfOk result (λ n. tree_at into.new.items n.2 ≡ tree_at from.now.items third) }
+    ensures kept { OnOk result (KeepsTrees into.old.items into.new.items) }
     ensures memory { OnErr result (result ≡ Err PolarsUtilsError.OutOfMemory) }
 {
     let (one, two) = copy_two(alloc, first, second, from, into)?;
@@ -210,11 +210,11 @@ fn copy_keyed(
     from: &Arena<AExpr>,
     into: &mut Arena<AExpr>,
 ) -> Result<(Node, Items<Node>)>
-    requires first { IsExpression from.now expr }
-    requires keys { AreComplete (trees_of (tree_at from.now) by.now) }
-    ensures first { IfOk result (λ n. tree_at into.new n.0 ≡ tree_at from.now expr) }
-    ensures keys { IfOk result (λ n. trees_of (tree_at into.new) n.1 ≡ trees_of (tree_at from.now) by.now) }
-    ensures kept { OnOk result (KeepsTrees into.old into.new) }
+    requires first { IsExpression from.now.items expr }
+    requires keys { AreComplete (trees_of (tree_at from.now.items) by.now) }
+    ensures first { IfOk result (λ n. tree_at into.new.items n.0 ≡ tree_at from.now.items expr) }
+    ensures keys { IfOk result (λ n. trees_of (tree_at into.new.items) n.1 ≡ trees_of (tree_at from.now.items) by.now) }
+    ensures kept { OnOk result (KeepsTrees into.old.items into.new.items) }
     ensures memory { OnErr result (result ≡ Err PolarsUtilsError.OutOfMemory) }
 {
     let keys = copy_all(alloc, by, from, into)?;
@@ -229,9 +229,9 @@ fn copy_all(
     from: &Arena<AExpr>,
     into: &mut Arena<AExpr>,
 ) -> Result<Items<Node>>
-    requires { AreComplete (trees_of (tree_at from.now) exprs.now) }
-    ensures trees { IfOk result (λ ns. trees_of (tree_at into.new) ns ≡ trees_of (tree_at from.now) exprs.now) }
-    ensures kept { OnOk result (KeepsTrees into.old into.new) }
+    requires { AreComplete (trees_of (tree_at from.now.items) exprs.now) }
+    ensures trees { IfOk result (λ ns. trees_of (tree_at into.new.items) ns ≡ trees_of (tree_at from.now.items) exprs.now) }
+    ensures kept { OnOk result (KeepsTrees into.old.items into.new.items) }
     ensures memory { OnErr result (result ≡ Err PolarsUtilsError.OutOfMemory) }
 {
     let mut copies = Vec::with_capacity(alloc, exprs.len())?;
@@ -248,9 +248,9 @@ fn copy_aggregate(
     from: &Arena<AExpr>,
     into: &mut Arena<AExpr>,
 ) -> Result<IRAggExpr>
-    requires { IsComplete (aggregate_tree (tree_at from.now) aggregate.now) }
-    ensures tree { IfOk result (λ a. aggregate_tree (tree_at into.new) a ≡ aggregate_tree (tree_at from.now) aggregate.now) }
-    ensures kept { OnOk result (KeepsTrees into.old into.new) }
+    requires { IsComplete (aggregate_tree (tree_at from.now.items) aggregate.now) }
+    ensures tree { IfOk result (λ a. aggregate_tree (tree_at into.new.items) a ≡ aggregate_tree (tree_at from.now.items) aggregate.now) }
+    ensures kept { OnOk result (KeepsTrees into.old.items into.new.items) }
     ensures memory { OnErr result (result ≡ Err PolarsUtilsError.OutOfMemory) }
 {
     match aggregate {
@@ -270,9 +270,9 @@ fn copy_aggregate(
 
 // Adds an entry over expressions that stand in the arena.
 fn add(into: &mut Arena<AExpr>, entry: AExpr) -> Result<Node>
-    requires { IsComplete (entry_tree (tree_at into.old) (Some entry)) }
-    ensures tree { IfOk result (λ n. tree_at into.new n ≡ entry_tree (tree_at into.old) (Some entry)) }
-    ensures kept { OnOk result (KeepsTrees into.old into.new) }
+    requires { IsComplete (entry_tree (tree_at into.old.items) (Some entry)) }
+    ensures tree { IfOk result (λ n. tree_at into.new.items n ≡ entry_tree (tree_at into.old.items) (Some entry)) }
+    ensures kept { OnOk result (KeepsTrees into.old.items into.new.items) }
     ensures memory { OnErr result (result ≡ Err PolarsUtilsError.OutOfMemory) }
 {
     let node = into.add(entry)?;

@@ -33,10 +33,10 @@ pub fn evaluate_entry<F: Functions>(
     inputs: &[DataFrame],
     schema: &Schema,
 ) -> PolarsResult<DataFrame>
-    requires ready { IsReadyFor (functions_of (F.counted functions.now) F.streams F.answer F.declared) (entry_step (tree_at exprs.now) entry.now) inputs.now schema.now }
+    requires ready { IsReadyFor (functions_of (F.counted functions.now) F.streams F.answer F.declared) (entry_step (tree_at exprs.now.items) entry.now) inputs.now schema.now }
     requires inputs { length inputs.now ≡ length (entry_inputs entry.now) }
-    ensures table { IfOk result (λ f. GivesFrame (functions_of (F.counted functions.now) F.streams F.answer F.declared) at.0 (entry_step (tree_at exprs.now) entry.now) inputs.now f) }
-    ensures fault { IfErr result (λ e. MayFault (functions_of (F.counted functions.now) F.streams F.answer F.declared) at.0 (entry_step (tree_at exprs.now) entry.now) inputs.now e) }
+    ensures table { IfOk result (λ f. GivesFrame (functions_of (F.counted functions.now) F.streams F.answer F.declared) at.0 (entry_step (tree_at exprs.now.items) entry.now) inputs.now f) }
+    ensures fault { IfErr result (λ e. MayFault (functions_of (F.counted functions.now) F.streams F.answer F.declared) at.0 (entry_step (tree_at exprs.now.items) entry.now) inputs.now e) }
 {
     match entry {
         IR::DataFrameScan { df, projection } => scanned(alloc, at, df, projection, inputs, schema),

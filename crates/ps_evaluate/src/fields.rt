@@ -24,8 +24,8 @@ pub(crate) fn push_fields(
     input: &Schema,
     schema: &mut Schema,
 ) -> PolarsResult<()>
-    requires { AllByRecursion IsComplete (key_trees (tree_at arena.now) exprs.now) }
-    ensures fields { OnOk result ((before : List Named) → fields_of before input.now ≡ Some schema.old → fields_of (before ++ named_trees (tree_at arena.now) exprs.now) input.now ≡ Some schema.new) }
+    requires { AllByRecursion IsComplete (key_trees (tree_at arena.now.items) exprs.now) }
+    ensures fields { OnOk result ((before : List Named) → fields_of before input.now ≡ Some schema.old → fields_of (before ++ named_trees (tree_at arena.now.items) exprs.now) input.now ≡ Some schema.new) }
     ensures memory { OnErr result (result ≡ Err PolarsError.OutOfMemory) }
 {
     for expr in exprs {

@@ -28,10 +28,10 @@ pub(crate) fn grouped(
     inputs: &[DataFrame],
     schema: &Schema,
 ) -> PolarsResult<DataFrame>
-    requires ready { (maintained : Bool) × IsReady (group_step (tree_at arena.now) keys.now aggs.now maintained slice) inputs.now schema.now }
+    requires ready { (maintained : Bool) × IsReady (group_step (tree_at arena.now.items) keys.now aggs.now maintained slice) inputs.now schema.now }
     requires inputs { length inputs.now ≡ 1 }
-    ensures table { IfOk result (λ f. (F : Functions) (maintained : Bool) → GivesFrame F at.0 (group_step (tree_at arena.now) keys.now aggs.now maintained slice) inputs.now f) }
-    ensures fault { IfErr result (λ e. (F : Functions) (maintained : Bool) → MayFault F at.0 (group_step (tree_at arena.now) keys.now aggs.now maintained slice) inputs.now e) }
+    ensures table { IfOk result (λ f. (F : Functions) (maintained : Bool) → GivesFrame F at.0 (group_step (tree_at arena.now.items) keys.now aggs.now maintained slice) inputs.now f) }
+    ensures fault { IfErr result (λ e. (F : Functions) (maintained : Bool) → MayFault F at.0 (group_step (tree_at arena.now.items) keys.now aggs.now maintained slice) inputs.now e) }
 {
     group_by(alloc, at, keys, aggs, slice, arena, only(inputs), schema)
 }

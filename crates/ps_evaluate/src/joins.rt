@@ -27,10 +27,10 @@ pub(crate) fn joined(
     inputs: &[DataFrame],
     schema: &Schema,
 ) -> PolarsResult<DataFrame>
-    requires ready { IsReady (join_step (join_of (tree_at arena.now) left_on.now right_on.now args.now)) inputs.now schema.now }
+    requires ready { IsReady (join_step (join_of (tree_at arena.now.items) left_on.now right_on.now args.now)) inputs.now schema.now }
     requires inputs { length inputs.now ≡ 2 }
-    ensures table { IfOk result (λ f. (F : Functions) → GivesFrame F at.0 (join_step (join_of (tree_at arena.now) left_on.now right_on.now args.now)) inputs.now f) }
-    ensures fault { IfErr result (λ e. (F : Functions) → MayFault F at.0 (join_step (join_of (tree_at arena.now) left_on.now right_on.now args.now)) inputs.now e) }
+    ensures table { IfOk result (λ f. (F : Functions) → GivesFrame F at.0 (join_step (join_of (tree_at arena.now.items) left_on.now right_on.now args.now)) inputs.now f) }
+    ensures fault { IfErr result (λ e. (F : Functions) → MayFault F at.0 (join_step (join_of (tree_at arena.now.items) left_on.now right_on.now args.now)) inputs.now e) }
 {
     let (left, right) = both(inputs);
     join(

@@ -24,8 +24,8 @@ pub(crate) fn copy_map(
     from: &Arena<AExpr>,
     into: &mut Arena<AExpr>,
 ) -> Result<MapKind>
-    requires { AllByRecursion IsComplete (step_exprs (map_step (tree_at from.now) kind.now)) }
-    ensures { IfOk result (λ k. map_step (tree_at into.new) k ≡ map_step (tree_at from.now) kind.now) }
+    requires { AllByRecursion IsComplete (step_exprs (map_step (tree_at from.now.items) kind.now)) }
+    ensures { IfOk result (λ k. map_step (tree_at into.new.items) k ≡ map_step (tree_at from.now.items) kind.now) }
 {
     match kind {
         MapKind::Function(n) => Ok(MapKind::Function(*n)),
@@ -75,9 +75,9 @@ fn copy_named(
     from: &Arena<AExpr>,
     into: &mut Arena<AExpr>,
 ) -> Result<Items<ExprIR>>
-    requires { AllByRecursion IsComplete (key_trees (tree_at from.now) exprs.now) }
-    ensures named { IfOk result (λ es. named_trees (tree_at into.new) es ≡ named_trees (tree_at from.now) exprs.now) }
-    ensures kept { OnOk result (KeepsTrees into.old into.new) }
+    requires { AllByRecursion IsComplete (key_trees (tree_at from.now.items) exprs.now) }
+    ensures named { IfOk result (λ es. named_trees (tree_at into.new.items) es ≡ named_trees (tree_at from.now.items) exprs.now) }
+    ensures kept { OnOk result (KeepsTrees into.old.items into.new.items) }
 {
     let mut copies = Vec::with_capacity(alloc, exprs.len())?;
     for expr in exprs {

@@ -29,12 +29,12 @@ pub fn evaluate_node<F: Functions>(
     functions: &F,
     inputs: &[DataFrame],
 ) -> PolarsResult<DataFrame>
-    requires valid { IsValidWith (functions_of (F.counted functions.now) F.streams F.answer F.declared) valid.now exprs.now }
-    requires reached { Reached (plan_with valid.now exprs.now) node.0 }
-    requires inputs { FitInputs (functions_of (F.counted functions.now) F.streams F.answer F.declared) (plan_with valid.now exprs.now) node.0 inputs.now }
-    ensures table { IfOk result (λ f. NodeGives (functions_of (F.counted functions.now) F.streams F.answer F.declared) (plan_with valid.now exprs.now) node.0 inputs.now f) }
-    ensures schema { IfOk result (λ f. f.schema ≡ plan_schemas (functions_of (F.counted functions.now) F.streams F.answer F.declared) (plan_with valid.now exprs.now) node.0) }
-    ensures fault { IfErr result (λ e. NodeFaults (functions_of (F.counted functions.now) F.streams F.answer F.declared) (plan_with valid.now exprs.now) node.0 inputs.now e) }
+    requires valid { IsValidWith (functions_of (F.counted functions.now) F.streams F.answer F.declared) valid.now exprs.now.items }
+    requires reached { Reached (plan_with valid.now exprs.now.items) node.0 }
+    requires inputs { FitInputs (functions_of (F.counted functions.now) F.streams F.answer F.declared) (plan_with valid.now exprs.now.items) node.0 inputs.now }
+    ensures table { IfOk result (λ f. NodeGives (functions_of (F.counted functions.now) F.streams F.answer F.declared) (plan_with valid.now exprs.now.items) node.0 inputs.now f) }
+    ensures schema { IfOk result (λ f. f.schema ≡ plan_schemas (functions_of (F.counted functions.now) F.streams F.answer F.declared) (plan_with valid.now exprs.now.items) node.0) }
+    ensures fault { IfErr result (λ e. NodeFaults (functions_of (F.counted functions.now) F.streams F.answer F.declared) (plan_with valid.now exprs.now.items) node.0 inputs.now e) }
 {
     evaluate_entry(
         alloc,

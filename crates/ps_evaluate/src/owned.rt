@@ -39,7 +39,7 @@ impl Model for OwnedMap {
 
     ghost Value = { MapParts };
 
-    ghost view = { λ m. record { kind = m.kind; exprs = m.exprs } };
+    ghost view = { λ m. record { kind = m.kind; exprs = m.exprs.items } };
 }
 
 impl OwnedMap {
@@ -47,8 +47,8 @@ impl OwnedMap {
     ///
     /// Fails only for want of memory.
     pub fn new(alloc: Global, kind: &MapKind, exprs: &Arena<AExpr>) -> PolarsResult<OwnedMap>
-        requires { AllByRecursion IsComplete (step_exprs (map_step (tree_at exprs.now) kind.now)) }
-        ensures same { IfOk result (λ m. step_of m ≡ map_step (tree_at exprs.now) kind.now) }
+        requires { AllByRecursion IsComplete (step_exprs (map_step (tree_at exprs.now.items) kind.now)) }
+        ensures same { IfOk result (λ m. step_of m ≡ map_step (tree_at exprs.now.items) kind.now) }
         ensures memory { OnErr result (result ≡ Err PolarsError.OutOfMemory) }
     {
         let mut copies = Arena::new(alloc);

@@ -28,10 +28,10 @@ pub(crate) fn selected(
     inputs: &[DataFrame],
     schema: &Schema,
 ) -> PolarsResult<DataFrame>
-    requires ready { IsReady (select_step (named_trees (tree_at arena.now) exprs.now)) inputs.now schema.now }
+    requires ready { IsReady (select_step (named_trees (tree_at arena.now.items) exprs.now)) inputs.now schema.now }
     requires inputs { length inputs.now ≡ 1 }
-    ensures table { IfOk result (λ f. (F : Functions) → GivesFrame F at.0 (select_step (named_trees (tree_at arena.now) exprs.now)) inputs.now f) }
-    ensures fault { IfErr result (λ e. (F : Functions) → MayFault F at.0 (select_step (named_trees (tree_at arena.now) exprs.now)) inputs.now e) }
+    ensures table { IfOk result (λ f. (F : Functions) → GivesFrame F at.0 (select_step (named_trees (tree_at arena.now.items) exprs.now)) inputs.now f) }
+    ensures fault { IfErr result (λ e. (F : Functions) → MayFault F at.0 (select_step (named_trees (tree_at arena.now.items) exprs.now)) inputs.now e) }
 {
     select(alloc, at, exprs, arena, only(inputs), schema)
 }
@@ -44,10 +44,10 @@ pub(crate) fn stacked(
     inputs: &[DataFrame],
     schema: &Schema,
 ) -> PolarsResult<DataFrame>
-    requires ready { IsReady (hstack_step (named_trees (tree_at arena.now) exprs.now)) inputs.now schema.now }
+    requires ready { IsReady (hstack_step (named_trees (tree_at arena.now.items) exprs.now)) inputs.now schema.now }
     requires inputs { length inputs.now ≡ 1 }
-    ensures table { IfOk result (λ f. (F : Functions) → GivesFrame F at.0 (hstack_step (named_trees (tree_at arena.now) exprs.now)) inputs.now f) }
-    ensures fault { IfErr result (λ e. (F : Functions) → MayFault F at.0 (hstack_step (named_trees (tree_at arena.now) exprs.now)) inputs.now e) }
+    ensures table { IfOk result (λ f. (F : Functions) → GivesFrame F at.0 (hstack_step (named_trees (tree_at arena.now.items) exprs.now)) inputs.now f) }
+    ensures fault { IfErr result (λ e. (F : Functions) → MayFault F at.0 (hstack_step (named_trees (tree_at arena.now.items) exprs.now)) inputs.now e) }
 {
     hstack(alloc, at, exprs, arena, only(inputs), schema)
 }
@@ -59,10 +59,10 @@ pub(crate) fn filtered(
     arena: &Arena<AExpr>,
     inputs: &[DataFrame],
 ) -> PolarsResult<DataFrame>
-    requires ready { (s : Fields) × IsReady (filter_step (tree_at arena.now predicate.now.node)) inputs.now s }
+    requires ready { (s : Fields) × IsReady (filter_step (tree_at arena.now.items predicate.now.node)) inputs.now s }
     requires inputs { length inputs.now ≡ 1 }
-    ensures table { IfOk result (λ f. (F : Functions) → GivesFrame F at.0 (filter_step (tree_at arena.now predicate.now.node)) inputs.now f) }
-    ensures fault { IfErr result (λ e. (F : Functions) → MayFault F at.0 (filter_step (tree_at arena.now predicate.now.node)) inputs.now e) }
+    ensures table { IfOk result (λ f. (F : Functions) → GivesFrame F at.0 (filter_step (tree_at arena.now.items predicate.now.node)) inputs.now f) }
+    ensures fault { IfErr result (λ e. (F : Functions) → MayFault F at.0 (filter_step (tree_at arena.now.items predicate.now.node)) inputs.now e) }
 {
     filter(alloc, at, predicate, arena, only(inputs))
 }
@@ -76,10 +76,10 @@ pub(crate) fn sorted(
     arena: &Arena<AExpr>,
     inputs: &[DataFrame],
 ) -> PolarsResult<DataFrame>
-    requires ready { (s : Fields) × IsReady (sort_step (tree_at arena.now) by.now slice options.now) inputs.now s }
+    requires ready { (s : Fields) × IsReady (sort_step (tree_at arena.now.items) by.now slice options.now) inputs.now s }
     requires inputs { length inputs.now ≡ 1 }
-    ensures table { IfOk result (λ f. (F : Functions) → GivesFrame F at.0 (sort_step (tree_at arena.now) by.now slice options.now) inputs.now f) }
-    ensures fault { IfErr result (λ e. (F : Functions) → MayFault F at.0 (sort_step (tree_at arena.now) by.now slice options.now) inputs.now e) }
+    ensures table { IfOk result (λ f. (F : Functions) → GivesFrame F at.0 (sort_step (tree_at arena.now.items) by.now slice options.now) inputs.now f) }
+    ensures fault { IfErr result (λ e. (F : Functions) → MayFault F at.0 (sort_step (tree_at arena.now.items) by.now slice options.now) inputs.now e) }
 {
     sort(alloc, at, by, slice, options, arena, only(inputs))
 }

@@ -92,7 +92,7 @@ fn selection(alloc: Global) -> Result<Items<ExprIR>, Fail>
 
 // A scan, the select and a sink.
 fn plan(alloc: Global, df: DataFrame) -> Result<Arena<IR>, Fail>
-    ensures { IfOk result (λ nodes. nodes ≡ tested_nodes df) }
+    ensures { IfOk result (λ nodes. nodes.items ≡ tested_nodes df) }
 {
     let expr = selection(alloc)?;
     let mut nodes = Arena::new(alloc);
@@ -140,7 +140,7 @@ fn by_both<F: Functions, L: Ledger>(
     requires name { blank.name ≡ L.name }
     requires parts { blank.parts ≡ L.parts }
     requires some { 0 < L.parts }
-    requires nodes { (df : Frame) × (nodes ≡ tested_nodes df) }
+    requires nodes { (df : Frame) × (nodes.items ≡ tested_nodes df) }
     requires select { select.now ≡ kind.Select tested_select }
 {
     let mut steps = Steps::<L>::new(blank);

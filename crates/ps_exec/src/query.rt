@@ -43,9 +43,9 @@ pub fn run_query<R: Threads + Wait + Sync, F: Functions, G: Gate>(
     options: &Options,
 ) -> PolarsResult<Option<DataFrame>>
     ensures some { IfOk result IsSome }
-    ensures table { IfOk result (λ o. IfSome o (IsQueryAnswer (functions_of (F.counted functions.now) F.streams F.answer F.declared) (plan_of node ir_arena expr_arena.old))) }
-    ensures error { IfErr result (IsQueryError (functions_of (F.counted functions.now) F.streams F.answer F.declared) (plan_of node ir_arena expr_arena.old)) }
-    ensures exprs { BeginsWith expr_arena.old expr_arena.new }
+    ensures table { IfOk result (λ o. IfSome o (IsQueryAnswer (functions_of (F.counted functions.now) F.streams F.answer F.declared) (plan_of node ir_arena.items expr_arena.old.items))) }
+    ensures error { IfErr result (IsQueryError (functions_of (F.counted functions.now) F.streams F.answer F.declared) (plan_of node ir_arena.items expr_arena.old.items)) }
+    ensures exprs { BeginsWith expr_arena.old.items expr_arena.new.items }
 {
     let _rt = rt;
     let _gate = gate;
@@ -63,9 +63,9 @@ pub fn run_query_serial<F: Functions>(
     options: &Options,
 ) -> PolarsResult<Option<DataFrame>>
     ensures some { IfOk result IsSome }
-    ensures table { IfOk result (λ o. IfSome o (IsQueryAnswer (functions_of (F.counted functions.now) F.streams F.answer F.declared) (plan_of node ir_arena expr_arena.old))) }
-    ensures error { IfErr result (IsQueryError (functions_of (F.counted functions.now) F.streams F.answer F.declared) (plan_of node ir_arena expr_arena.old)) }
-    ensures exprs { BeginsWith expr_arena.old expr_arena.new }
+    ensures table { IfOk result (λ o. IfSome o (IsQueryAnswer (functions_of (F.counted functions.now) F.streams F.answer F.declared) (plan_of node ir_arena.items expr_arena.old.items))) }
+    ensures error { IfErr result (IsQueryError (functions_of (F.counted functions.now) F.streams F.answer F.declared) (plan_of node ir_arena.items expr_arena.old.items)) }
+    ensures exprs { BeginsWith expr_arena.old.items expr_arena.new.items }
 {
     let _options = options;
     answer_of(alloc, node, ir_arena, expr_arena, functions)
@@ -79,8 +79,8 @@ fn answer_of<F: Functions>(
     functions: &F,
 ) -> PolarsResult<Option<DataFrame>>
     ensures some { IfOk result IsSome }
-    ensures table { IfOk result (λ o. IfSome o (IsQueryAnswer (functions_of (F.counted functions.now) F.streams F.answer F.declared) (plan_of node ir exprs.now))) }
-    ensures error { IfErr result (IsQueryError (functions_of (F.counted functions.now) F.streams F.answer F.declared) (plan_of node ir exprs.now)) }
+    ensures table { IfOk result (λ o. IfSome o (IsQueryAnswer (functions_of (F.counted functions.now) F.streams F.answer F.declared) (plan_of node ir.items exprs.now.items))) }
+    ensures error { IfErr result (IsQueryError (functions_of (F.counted functions.now) F.streams F.answer F.declared) (plan_of node ir.items exprs.now.items)) }
 {
     match table_of::<F, Brand>(alloc, Blank::new(1), node, ir, exprs, functions) {
         Ok(table) => Ok(Some(table)),
@@ -99,8 +99,8 @@ fn table_of<F: Functions, L: Ledger>(
     requires name { blank.name ≡ L.name }
     requires parts { blank.parts ≡ L.parts }
     requires some { 0 < L.parts }
-    ensures table { IfOk result (IsQueryAnswer (functions_of (F.counted functions.now) F.streams F.answer F.declared) (plan_of root ir exprs.now)) }
-    ensures error { IfErr result (IsQueryError (functions_of (F.counted functions.now) F.streams F.answer F.declared) (plan_of root ir exprs.now)) }
+    ensures table { IfOk result (IsQueryAnswer (functions_of (F.counted functions.now) F.streams F.answer F.declared) (plan_of root ir.items exprs.now.items)) }
+    ensures error { IfErr result (IsQueryError (functions_of (F.counted functions.now) F.streams F.answer F.declared) (plan_of root ir.items exprs.now.items)) }
 {
     let mut steps = Steps::<L>::new(blank);
     match validate(alloc, root, ir, exprs, functions, &mut steps) {
@@ -117,9 +117,9 @@ fn run<F: Functions, L: Ledger>(
     functions: &F,
     steps: &mut Steps<L>,
 ) -> PolarsResult<DataFrame>
-    requires { IsValidWith (functions_of (F.counted functions.now) F.streams F.answer F.declared) valid.now exprs.now }
-    ensures table { IfOk result (IsQueryAnswer (functions_of (F.counted functions.now) F.streams F.answer F.declared) (plan_with valid.now exprs.now)) }
-    ensures error { IfErr result (IsQueryError (functions_of (F.counted functions.now) F.streams F.answer F.declared) (plan_with valid.now exprs.now)) }
+    requires { IsValidWith (functions_of (F.counted functions.now) F.streams F.answer F.declared) valid.now exprs.now.items }
+    ensures table { IfOk result (IsQueryAnswer (functions_of (F.counted functions.now) F.streams F.answer F.declared) (plan_with valid.now exprs.now.items)) }
+    ensures error { IfErr result (IsQueryError (functions_of (F.counted functions.now) F.streams F.answer F.declared) (plan_with valid.now exprs.now.items)) }
 {
     match survey_plan(alloc, valid.root(), valid.ir(), exprs, steps) {
         Ok(survey) => run_in_order(alloc, valid, exprs, functions, survey.order()),
@@ -134,10 +134,10 @@ fn run_in_order<F: Functions>(
     functions: &F,
     order: &[usize],
 ) -> PolarsResult<DataFrame>
-    requires valid { IsValidWith (functions_of (F.counted functions.now) F.streams F.answer F.declared) valid.now exprs.now }
-    requires survey { IsSurvey (plan_with valid.now exprs.now) order.now }
-    ensures table { IfOk result (IsQueryAnswer (functions_of (F.counted functions.now) F.streams F.answer F.declared) (plan_with valid.now exprs.now)) }
-    ensures error { IfErr result (IsQueryError (functions_of (F.counted functions.now) F.streams F.answer F.declared) (plan_with valid.now exprs.now)) }
+    requires valid { IsValidWith (functions_of (F.counted functions.now) F.streams F.answer F.declared) valid.now exprs.now.items }
+    requires survey { IsSurvey (plan_with valid.now exprs.now.items) order.now }
+    ensures table { IfOk result (IsQueryAnswer (functions_of (F.counted functions.now) F.streams F.answer F.declared) (plan_with valid.now exprs.now.items)) }
+    ensures error { IfErr result (IsQueryError (functions_of (F.counted functions.now) F.streams F.answer F.declared) (plan_with valid.now exprs.now.items)) }
 {
     match last_readers(alloc, valid.root(), order, valid.ir()) {
         Ok(until) => walk(alloc, valid, exprs, functions, order, until.as_slice()),

@@ -19,11 +19,11 @@ pub(crate) fn last_readers(
     order: &[usize],
     ir: &Arena<IR>,
 ) -> PolarsResult<Vec<usize>>
-    requires nodes { All (λ n. n < length ir.now) order.now }
-    requires inputs { All (λ n. All (λ m. m < length ir.now) (inputs_in ir.now n)) order.now }
-    requires root { root.0 < length ir.now }
-    ensures size { IfOk result (λ until. length until.items ≡ length ir.now) }
-    ensures wanted { IfOk result (λ until. IsWantedUntil (inputs_in ir.now) order.now until.items) }
+    requires nodes { All (λ n. n < length ir.now.items) order.now }
+    requires inputs { All (λ n. All (λ m. m < length ir.now.items) (inputs_in ir.now.items n)) order.now }
+    requires root { root.0 < length ir.now.items }
+    ensures size { IfOk result (λ until. length until.items ≡ length ir.now.items) }
+    ensures wanted { IfOk result (λ until. IsWantedUntil (inputs_in ir.now.items) order.now until.items) }
     ensures root { IfOk result (λ until. length order.now ≤ get_or until.items root.0 0) }
     ensures memory { OnErr result (result ≡ Err PolarsError.OutOfMemory) }
 {

@@ -33,13 +33,13 @@ pub(crate) fn walk<F: Functions>(
     order: &[usize],
     until: &[usize],
 ) -> PolarsResult<DataFrame>
-    requires valid { IsValidWith (functions_of (F.counted functions.now) F.streams F.answer F.declared) valid.now exprs.now }
-    requires survey { IsSurvey (plan_with valid.now exprs.now) order.now }
+    requires valid { IsValidWith (functions_of (F.counted functions.now) F.streams F.answer F.declared) valid.now exprs.now.items }
+    requires survey { IsSurvey (plan_with valid.now exprs.now.items) order.now }
     requires size { length until.now ≡ length valid.now.nodes }
-    requires wanted { IsWantedUntil (inputs_at (plan_with valid.now exprs.now)) order.now until.now }
+    requires wanted { IsWantedUntil (inputs_at (plan_with valid.now exprs.now.items)) order.now until.now }
     requires root { length order.now ≤ get_or until.now valid.now.root.0 0 }
-    ensures table { IfOk result (λ f. IsMeaning (functions_of (F.counted functions.now) F.streams F.answer F.declared) (tree_of (plan_with valid.now exprs.now) valid.now.root.0) (whole f)) }
-    ensures fault { IfErr result (λ e. IsRunError (functions_of (F.counted functions.now) F.streams F.answer F.declared) (plan_with valid.now exprs.now) e) }
+    ensures table { IfOk result (λ f. IsMeaning (functions_of (F.counted functions.now) F.streams F.answer F.declared) (tree_of (plan_with valid.now exprs.now.items) valid.now.root.0) (whole f)) }
+    ensures fault { IfErr result (λ e. IsRunError (functions_of (F.counted functions.now) F.streams F.answer F.declared) (plan_with valid.now exprs.now.items) e) }
 {
     let mut tables = Tables::new(alloc, valid.ir().len())?;
     for (place, node) in order.iter().enumerate() {

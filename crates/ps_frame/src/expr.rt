@@ -190,18 +190,18 @@ use pu_index::Arena;
 
 /// The entry of an expression, over the trees of whose numbers its tree stands.
 pub fn entry(expr: Node, arena: &Arena<AExpr>) -> &AExpr
-    requires { IsExpression arena.now expr }
-    ensures tree { tree_at arena.now expr ≡ entry_tree (tree_at arena.now) (Some result.now) }
-    ensures complete { IsComplete (entry_tree (tree_at arena.now) (Some result.now)) }
-    ensures size { tree_size (tree_at arena.now expr) ≡ tree_size (entry_tree (tree_at arena.now) (Some result.now)) }
+    requires { IsExpression arena.now.items expr }
+    ensures tree { tree_at arena.now.items expr ≡ entry_tree (tree_at arena.now.items) (Some result.now) }
+    ensures complete { IsComplete (entry_tree (tree_at arena.now.items) (Some result.now)) }
+    ensures size { tree_size (tree_at arena.now.items expr) ≡ tree_size (entry_tree (tree_at arena.now.items) (Some result.now)) }
 {
     arena.get(expr)
 }
 
 /// Whether each cell of an expression's answer comes from the cells of its row.
 pub fn is_elementwise(expr: Node, arena: &Arena<AExpr>) -> bool
-    requires { IsExpression arena.now expr }
-    ensures { result ≡ is_elementwise_tree (tree_at arena.now expr) }
+    requires { IsExpression arena.now.items expr }
+    ensures { result ≡ is_elementwise_tree (tree_at arena.now.items expr) }
 {
     match entry(expr, arena) {
         AExpr::Column(_) => true,

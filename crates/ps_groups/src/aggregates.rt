@@ -37,13 +37,13 @@ pub(crate) fn aggregate_columns(
     tables: &GroupTables,
     schema: &Schema,
 ) -> PolarsResult<Vec<Column>>
-    requires complete { AllByRecursion IsComplete (key_trees (tree_at arena.now) aggs.now) }
-    requires kinds { All (λ f. map (kind_over f.schema) (key_trees (tree_at arena.now) aggs.now) ≡ map Some (kinds_of (last_fields (length aggs.now) schema.now))) tables.now }
+    requires complete { AllByRecursion IsComplete (key_trees (tree_at arena.now.items) aggs.now) }
+    requires kinds { All (λ f. map (kind_over f.schema) (key_trees (tree_at arena.now.items) aggs.now) ≡ map Some (kinds_of (last_fields (length aggs.now) schema.now))) tables.now }
     requires count { length aggs.now ≤ length schema.now }
     requires fit { All FitsFrame tables.now }
     ensures kinds { IfOk result (λ columns. HasKinds (last_fields (length aggs.now) schema.now) columns.items) }
-    ensures columns { IfOk result (λ columns. AllZip (IsAggregate at.0 tables.now) (key_trees (tree_at arena.now) aggs.now) columns.items) }
-    ensures fault { IfErr result (IsErrorAt at.0 (IsFaultOfAny at.0 tables.now (key_trees (tree_at arena.now) aggs.now))) }
+    ensures columns { IfOk result (λ columns. AllZip (IsAggregate at.0 tables.now) (key_trees (tree_at arena.now.items) aggs.now) columns.items) }
+    ensures fault { IfErr result (IsErrorAt at.0 (IsFaultOfAny at.0 tables.now (key_trees (tree_at arena.now.items) aggs.now))) }
 {
     let from = schema.len() - aggs.len();
     let mut columns = Vec::with_capacity(alloc, aggs.len())?;
@@ -66,12 +66,12 @@ fn aggregate_column(
     tables: &GroupTables,
     dtype: DataType,
 ) -> PolarsResult<Column>
-    requires expression { IsExpression arena.now expr }
-    requires kinds { All (λ f. kind_over f.schema (tree_at arena.now expr) ≡ Some dtype) tables.now }
+    requires expression { IsExpression arena.now.items expr }
+    requires kinds { All (λ f. kind_over f.schema (tree_at arena.now.items expr) ≡ Some dtype) tables.now }
     requires fit { All FitsFrame tables.now }
     ensures kind { IfOk result (λ c. c.kind ≡ dtype) }
-    ensures column { IfOk result (IsAggregate at.0 tables.now (tree_at arena.now expr)) }
-    ensures error { IfErr result (IsErrorAt at.0 (IsFaultOver at.0 tables.now (tree_at arena.now expr))) }
+    ensures column { IfOk result (IsAggregate at.0 tables.now (tree_at arena.now.items expr)) }
+    ensures error { IfErr result (IsErrorAt at.0 (IsFaultOver at.0 tables.now (tree_at arena.now.items expr))) }
 {
     let mut values = Vec::with_capacity(alloc, tables.len())?;
     for group in 0..tables.len() {
@@ -91,10 +91,10 @@ fn value_over(
     tables: &GroupTables,
     group: usize,
 ) -> Result<Result<Value, DataFault>, AllocError>
-    requires expression { IsExpression arena.now expr }
+    requires expression { IsExpression arena.now.items expr }
     requires within { group < length tables.now }
-    requires kinds { All (λ f. IsSome (kind_over f.schema (tree_at arena.now expr))) tables.now }
-    ensures { IfOk result (λ outcome. (at : ℕ) (f : Frame) → IsValueOf at (get_or tables.now group f) (tree_at arena.now expr) outcome) }
+    requires kinds { All (λ f. IsSome (kind_over f.schema (tree_at arena.now.items expr))) tables.now }
+    ensures { IfOk result (λ outcome. (at : ℕ) (f : Frame) → IsValueOf at (get_or tables.now group f) (tree_at arena.now.items expr) outcome) }
 {
     let table = tables.table(alloc, group)?;
     value_of(alloc, expr, arena, &table)
@@ -107,9 +107,9 @@ fn value_of(
     arena: &Arena<AExpr>,
     df: &DataFrame,
 ) -> Result<Result<Value, DataFault>, AllocError>
-    requires expression { IsExpression arena.now expr }
-    requires kind { IsSome (kind_over df.now.schema (tree_at arena.now expr)) }
-    ensures { IfOk result (λ outcome. (at : ℕ) → IsValueOf at df.now (tree_at arena.now expr) outcome) }
+    requires expression { IsExpression arena.now.items expr }
+    requires kind { IsSome (kind_over df.now.schema (tree_at arena.now.items expr)) }
+    ensures { IfOk result (λ outcome. (at : ℕ) → IsValueOf at df.now (tree_at arena.now.items expr) outcome) }
 {
     let part = part_of(alloc, expr, arena, df)?;
     first_value(alloc, part)

@@ -46,11 +46,11 @@ pub fn group_by(
     df: &DataFrame,
     schema: &Schema,
 ) -> PolarsResult<DataFrame>
-    requires keys { AreTypedOver df.now.schema (key_trees (tree_at arena.now) keys.now) }
-    requires aggs { AreTypedOver df.now.schema (key_trees (tree_at arena.now) aggs.now) }
-    requires schema { fields_of (named_trees (tree_at arena.now) keys.now ++ named_trees (tree_at arena.now) aggs.now) df.now.schema ≡ Some schema.now }
-    ensures table { IfOk result (λ f. (F : Functions) (maintained : Bool) → GivesFrame F at.0 (group_step (tree_at arena.now) keys.now aggs.now maintained slice) (df.now ∷ []) f) }
-    ensures fault { IfErr result (λ e. (F : Functions) (maintained : Bool) → MayFault F at.0 (group_step (tree_at arena.now) keys.now aggs.now maintained slice) (df.now ∷ []) e) }
+    requires keys { AreTypedOver df.now.schema (key_trees (tree_at arena.now.items) keys.now) }
+    requires aggs { AreTypedOver df.now.schema (key_trees (tree_at arena.now.items) aggs.now) }
+    requires schema { fields_of (named_trees (tree_at arena.now.items) keys.now ++ named_trees (tree_at arena.now.items) aggs.now) df.now.schema ≡ Some schema.now }
+    ensures table { IfOk result (λ f. (F : Functions) (maintained : Bool) → GivesFrame F at.0 (group_step (tree_at arena.now.items) keys.now aggs.now maintained slice) (df.now ∷ []) f) }
+    ensures fault { IfErr result (λ e. (F : Functions) (maintained : Bool) → MayFault F at.0 (group_step (tree_at arena.now.items) keys.now aggs.now maintained slice) (df.now ∷ []) e) }
 {
     let keyed = match keyed_table(alloc, at, keys, arena, df) {
         Ok(keyed) => keyed,
@@ -71,11 +71,11 @@ fn groups_of(
     arena: &Arena<AExpr>,
     schema: &Schema,
 ) -> PolarsResult<DataFrame>
-    requires { CanGroup keyed.now.table keyed.now.keys.items (key_trees (tree_at arena.now) aggs.now) schema.now }
+    requires { CanGroup keyed.now.table keyed.now.keys.items (key_trees (tree_at arena.now.items) aggs.now) schema.now }
     ensures schema { IfOk result (λ f. f.schema ≡ schema.now) }
-    ensures rows { IfOk result (λ f. f.rows ≡ map (λ g. g.cells) (table_groups at.0 (key_trees (tree_at arena.now) aggs.now) keyed.now.table keyed.now.keys.items)) }
-    ensures clean { OnOk result (all_causes (table_groups at.0 (key_trees (tree_at arena.now) aggs.now) keyed.now.table keyed.now.keys.items) ≡ []) }
-    ensures fault { IfErr result (IsErrorAt at.0 (IsFaultOfGroups at.0 (table_groups at.0 (key_trees (tree_at arena.now) aggs.now) keyed.now.table keyed.now.keys.items))) }
+    ensures rows { IfOk result (λ f. f.rows ≡ map (λ g. g.cells) (table_groups at.0 (key_trees (tree_at arena.now.items) aggs.now) keyed.now.table keyed.now.keys.items)) }
+    ensures clean { OnOk result (all_causes (table_groups at.0 (key_trees (tree_at arena.now.items) aggs.now) keyed.now.table keyed.now.keys.items) ≡ []) }
+    ensures fault { IfErr result (IsErrorAt at.0 (IsFaultOfGroups at.0 (table_groups at.0 (key_trees (tree_at arena.now.items) aggs.now) keyed.now.table keyed.now.keys.items))) }
 {
     let numbering = numbered_keys(alloc, keyed)?;
     match values_of_groups(alloc, at, keyed, &numbering, aggs, arena, schema) {
@@ -106,11 +106,11 @@ fn values_of_groups(
     arena: &Arena<AExpr>,
     schema: &Schema,
 ) -> PolarsResult<Vec<Column>>
-    requires groups { CanGroup keyed.now.table keyed.now.keys.items (key_trees (tree_at arena.now) aggs.now) schema.now }
+    requires groups { CanGroup keyed.now.table keyed.now.keys.items (key_trees (tree_at arena.now.items) aggs.now) schema.now }
     requires numbers { Numbers (rows_of (length keyed.now.table.rows) (column_values keyed.now.keys.items)) numbering.now }
     ensures kinds { IfOk result (λ columns. HasKinds (last_fields (length aggs.now) schema.now) columns.items) }
-    ensures columns { IfOk result (λ columns. AllZip (IsAggregate at.0 (key_frames keyed.now.table.schema (keyed_rows keyed.now.table keyed.now.keys.items))) (key_trees (tree_at arena.now) aggs.now) columns.items) }
-    ensures fault { IfErr result (IsErrorAt at.0 (IsFaultOfGroups at.0 (table_groups at.0 (key_trees (tree_at arena.now) aggs.now) keyed.now.table keyed.now.keys.items))) }
+    ensures columns { IfOk result (λ columns. AllZip (IsAggregate at.0 (key_frames keyed.now.table.schema (keyed_rows keyed.now.table keyed.now.keys.items))) (key_trees (tree_at arena.now.items) aggs.now) columns.items) }
+    ensures fault { IfErr result (IsErrorAt at.0 (IsFaultOfGroups at.0 (table_groups at.0 (key_trees (tree_at arena.now.items) aggs.now) keyed.now.table keyed.now.keys.items))) }
 {
     let tables = tables_by_key(alloc, &keyed.table, numbering)?;
     aggregate_columns(alloc, at, aggs, arena, &tables, schema)

@@ -9,11 +9,11 @@ use pu_index::{Arena, Node};
 
 /// The entry of a node, over the trees of whose inputs its tree stands.
 pub fn entry<'a>(node: Node, ir: &'a Arena<IR>, exprs: &Arena<AExpr>) -> &'a IR
-    requires { IsPlan ir.now exprs.now node }
-    ensures entry { slice_get ir.now node.0 ≡ Some result.now }
-    ensures tree { plan_at ir.now exprs.now node ≡ node_tree (tree_at exprs.now) (plan_at ir.now exprs.now) node (Some result.now) }
-    ensures complete { IsCompletePlan (node_tree (tree_at exprs.now) (plan_at ir.now exprs.now) node (Some result.now)) }
-    ensures size { plan_size (plan_at ir.now exprs.now node) ≡ plan_size (node_tree (tree_at exprs.now) (plan_at ir.now exprs.now) node (Some result.now)) }
+    requires { IsPlan ir.now.items exprs.now.items node }
+    ensures entry { slice_get ir.now.items node.0 ≡ Some result.now }
+    ensures tree { plan_at ir.now.items exprs.now.items node ≡ node_tree (tree_at exprs.now.items) (plan_at ir.now.items exprs.now.items) node (Some result.now) }
+    ensures complete { IsCompletePlan (node_tree (tree_at exprs.now.items) (plan_at ir.now.items exprs.now.items) node (Some result.now)) }
+    ensures size { plan_size (plan_at ir.now.items exprs.now.items node) ≡ plan_size (node_tree (tree_at exprs.now.items) (plan_at ir.now.items exprs.now.items) node (Some result.now)) }
 {
     let _exprs = exprs;
     ir.get(node)

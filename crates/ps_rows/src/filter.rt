@@ -31,10 +31,10 @@ pub fn filter(
     arena: &Arena<AExpr>,
     df: &DataFrame,
 ) -> PolarsResult<DataFrame>
-    requires expression { IsExpression arena.now predicate.now.node }
-    requires kind { kind_over df.now.schema (tree_at arena.now predicate.now.node) ≡ Some kind.Boolean }
-    ensures table { IfOk result (λ f. (F : Functions) → GivesFrame F at.0 (filter_step (tree_at arena.now predicate.now.node)) (df.now ∷ []) f) }
-    ensures fault { IfErr result (λ e. (F : Functions) → MayFault F at.0 (filter_step (tree_at arena.now predicate.now.node)) (df.now ∷ []) e) }
+    requires expression { IsExpression arena.now.items predicate.now.node }
+    requires kind { kind_over df.now.schema (tree_at arena.now.items predicate.now.node) ≡ Some kind.Boolean }
+    ensures table { IfOk result (λ f. (F : Functions) → GivesFrame F at.0 (filter_step (tree_at arena.now.items predicate.now.node)) (df.now ∷ []) f) }
+    ensures fault { IfErr result (λ e. (F : Functions) → MayFault F at.0 (filter_step (tree_at arena.now.items predicate.now.node)) (df.now ∷ []) e) }
 {
     match keyed_table(alloc, at, slice::from_ref(predicate), arena, df) {
         Ok(keyed) => rows_where_true(alloc, &keyed),

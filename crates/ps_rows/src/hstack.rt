@@ -40,11 +40,11 @@ pub fn hstack(
     df: &DataFrame,
     schema: &Schema,
 ) -> PolarsResult<DataFrame>
-    requires expressions { AllByRecursion IsComplete (key_trees (tree_at arena.now) exprs.now) }
-    requires fields { option_map (put_fields df.now.schema) (fields_of (named_trees (tree_at arena.now) exprs.now) df.now.schema) ≡ Some schema.now }
-    requires names_differ { (name : List ℕ) → ¬ IsTrue (repeats name (expr_names (named_trees (tree_at arena.now) exprs.now))) }
-    ensures table { IfOk result (λ f. (F : Functions) → GivesFrame F at.0 (hstack_step (named_trees (tree_at arena.now) exprs.now)) (df.now ∷ []) f) }
-    ensures fault { IfErr result (λ e. (F : Functions) → MayFault F at.0 (hstack_step (named_trees (tree_at arena.now) exprs.now)) (df.now ∷ []) e) }
+    requires expressions { AllByRecursion IsComplete (key_trees (tree_at arena.now.items) exprs.now) }
+    requires fields { option_map (put_fields df.now.schema) (fields_of (named_trees (tree_at arena.now.items) exprs.now) df.now.schema) ≡ Some schema.now }
+    requires names_differ { (name : List ℕ) → ¬ IsTrue (repeats name (expr_names (named_trees (tree_at arena.now.items) exprs.now))) }
+    ensures table { IfOk result (λ f. (F : Functions) → GivesFrame F at.0 (hstack_step (named_trees (tree_at arena.now.items) exprs.now)) (df.now ∷ []) f) }
+    ensures fault { IfErr result (λ e. (F : Functions) → MayFault F at.0 (hstack_step (named_trees (tree_at arena.now.items) exprs.now)) (df.now ∷ []) e) }
 {
     df.schema().names_differ();
     let Ok(new) = new_names(alloc, exprs) else {

@@ -36,9 +36,9 @@ pub fn keyed_table(
     arena: &Arena<AExpr>,
     df: &DataFrame,
 ) -> PolarsResult<KeyedTable>
-    requires { AreTypedOver df.now.schema (key_trees (tree_at arena.now) exprs.now) }
-    ensures table { IfOk result (λ k. IsTableWithKeys (keyed_zip at.0 (key_trees (tree_at arena.now) exprs.now) (whole df.now)) df.now.schema (expr_kinds df.now.schema (key_trees (tree_at arena.now) exprs.now)) k.table k.keys.items) }
-    ensures error { IfErr result (IsZipError at.0 (key_trees (tree_at arena.now) exprs.now) (whole df.now) (keyed_zip at.0 (key_trees (tree_at arena.now) exprs.now) (whole df.now))) }
+    requires { AreTypedOver df.now.schema (key_trees (tree_at arena.now.items) exprs.now) }
+    ensures table { IfOk result (λ k. IsTableWithKeys (keyed_zip at.0 (key_trees (tree_at arena.now.items) exprs.now) (whole df.now)) df.now.schema (expr_kinds df.now.schema (key_trees (tree_at arena.now.items) exprs.now)) k.table k.keys.items) }
+    ensures error { IfErr result (IsZipError at.0 (key_trees (tree_at arena.now.items) exprs.now) (whole df.now) (keyed_zip at.0 (key_trees (tree_at arena.now.items) exprs.now) (whole df.now))) }
 {
     match zip_keyed(alloc, at, exprs, arena, df) {
         Ok(zip) => parted(alloc, df.schema(), zip),

@@ -29,10 +29,10 @@ pub fn select(
     df: &DataFrame,
     schema: &Schema,
 ) -> PolarsResult<DataFrame>
-    requires expressions { AllByRecursion IsComplete (key_trees (tree_at arena.now) exprs.now) }
-    requires fields { fields_of (named_trees (tree_at arena.now) exprs.now) df.now.schema ≡ Some schema.now }
-    ensures table { IfOk result (λ f. (F : Functions) → GivesFrame F at.0 (select_step (named_trees (tree_at arena.now) exprs.now)) (df.now ∷ []) f) }
-    ensures fault { IfErr result (λ e. (F : Functions) → MayFault F at.0 (select_step (named_trees (tree_at arena.now) exprs.now)) (df.now ∷ []) e) }
+    requires expressions { AllByRecursion IsComplete (key_trees (tree_at arena.now.items) exprs.now) }
+    requires fields { fields_of (named_trees (tree_at arena.now.items) exprs.now) df.now.schema ≡ Some schema.now }
+    ensures table { IfOk result (λ f. (F : Functions) → GivesFrame F at.0 (select_step (named_trees (tree_at arena.now.items) exprs.now)) (df.now ∷ []) f) }
+    ensures fault { IfErr result (λ e. (F : Functions) → MayFault F at.0 (select_step (named_trees (tree_at arena.now.items) exprs.now)) (df.now ∷ []) e) }
 {
     match zip_exprs(alloc, at, exprs, arena, df) {
         Ok(zip) => frame_of_height(alloc, schema, zip.columns, zip.height),

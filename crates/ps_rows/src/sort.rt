@@ -37,9 +37,9 @@ pub fn sort(
     arena: &Arena<AExpr>,
     df: &DataFrame,
 ) -> PolarsResult<DataFrame>
-    requires { AreTypedOver df.now.schema (key_trees (tree_at arena.now) by.now) }
-    ensures table { IfOk result (λ f. (F : Functions) → GivesFrame F at.0 (sort_step (tree_at arena.now) by.now slice options.now) (df.now ∷ []) f) }
-    ensures fault { IfErr result (λ e. (F : Functions) → MayFault F at.0 (sort_step (tree_at arena.now) by.now slice options.now) (df.now ∷ []) e) }
+    requires { AreTypedOver df.now.schema (key_trees (tree_at arena.now.items) by.now) }
+    ensures table { IfOk result (λ f. (F : Functions) → GivesFrame F at.0 (sort_step (tree_at arena.now.items) by.now slice options.now) (df.now ∷ []) f) }
+    ensures fault { IfErr result (λ e. (F : Functions) → MayFault F at.0 (sort_step (tree_at arena.now.items) by.now slice options.now) (df.now ∷ []) e) }
 {
     match keyed_table(alloc, at, by, arena, df) {
         Ok(keyed) => sorted_part(alloc, &keyed, slice, options),

@@ -42,7 +42,7 @@ fn table(alloc: Global) -> Result<DataFrame, FrameError>
 }
 
 fn expressions(alloc: Global) -> Result<Arena<AExpr>, PolarsUtilsError>
-    ensures { IfOk result (λ arena. arena ≡ tested_entries) }
+    ensures { IfOk result (λ arena. arena.items ≡ tested_entries) }
 {
     let mut arena = Arena::new(alloc);
     let a = arena.add(AExpr::Column(PlSmallStr::from_str(alloc, "a")?))?;
@@ -70,7 +70,7 @@ fn evaluated_in(
     arena: &Arena<AExpr>,
     df: &DataFrame,
 ) -> Option<Evaluated>
-    requires entries { arena.now ≡ tested_entries }
+    requires entries { arena.now.items ≡ tested_entries }
     requires schema { df.now.schema ≡ tested_schema }
     requires number { number < 8 }
 {

@@ -105,12 +105,12 @@ pub fn expr_extents<L: Ledger>(
     exprs: &Arena<AExpr>,
     steps: &mut Steps<L>,
 ) -> PolarsResult<Vec<Extent>>
-    requires complete { (e : ℕ) → Contains order.now e → IsExpression exprs.now (record { 0 = e }) }
-    requires first { NamedFirst (operands_in exprs.now) order.now }
-    ensures size { IfOk result (λ table. length table.items ≡ length exprs.now) }
-    ensures extents { IfOk result (λ table. (e : ℕ) → Contains order.now e → HasExtent table.items e (expr_depth exprs.now e) (expr_size exprs.now e)) }
+    requires complete { (e : ℕ) → Contains order.now e → IsExpression exprs.now.items (record { 0 = e }) }
+    requires first { NamedFirst (operands_in exprs.now.items) order.now }
+    ensures size { IfOk result (λ table. length table.items ≡ length exprs.now.items) }
+    ensures extents { IfOk result (λ table. (e : ℕ) → Contains order.now e → HasExtent table.items e (expr_depth exprs.now.items e) (expr_size exprs.now.items e)) }
     ensures memory { OnErr result (result ≡ Err refusal.OutOfMemory) }
-    ensures steps { steps.new ≤ steps.old + looks_at (operands_in exprs.now) order.now }
+    ensures steps { steps.new ≤ steps.old + looks_at (operands_in exprs.now.items) order.now }
 {
     let mut table = match vec![in alloc; Extent::none(); exprs.len()] {
         Ok(table) => table,

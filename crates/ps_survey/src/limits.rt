@@ -27,11 +27,11 @@ fn node_extent<L: Ledger>(
     nodes: &Arena<IR>,
     steps: &mut Steps<L>,
 ) -> Extent
-    requires node { node < length nodes.now }
-    requires inputs { (m : ℕ) → Contains (inputs_in nodes.now node) m → m < length inputs.now }
-    requires own { (e : ℕ) → Contains (exprs_in nodes.now node) e → e < length own.now }
-    ensures extent { (d s f t : ℕ → ℕ) → ((m : ℕ) → Contains (inputs_in nodes.now node) m → HasExtent inputs.now m (d m) (s m)) → ((e : ℕ) → Contains (exprs_in nodes.now node) e → HasExtent own.now e (f e) (t e)) → IsExtent (suc (max (largest f (exprs_in nodes.now node)) (largest d (inputs_in nodes.now node)))) (suc (sum_by t (exprs_in nodes.now node) + sum_by s (inputs_in nodes.now node))) result }
-    ensures steps { steps.new ≡ steps.old + (length (inputs_in nodes.now node) + length (exprs_in nodes.now node)) }
+    requires node { node < length nodes.now.items }
+    requires inputs { (m : ℕ) → Contains (inputs_in nodes.now.items node) m → m < length inputs.now }
+    requires own { (e : ℕ) → Contains (exprs_in nodes.now.items node) e → e < length own.now }
+    ensures extent { (d s f t : ℕ → ℕ) → ((m : ℕ) → Contains (inputs_in nodes.now.items node) m → HasExtent inputs.now m (d m) (s m)) → ((e : ℕ) → Contains (exprs_in nodes.now.items node) e → HasExtent own.now e (f e) (t e)) → IsExtent (suc (max (largest f (exprs_in nodes.now.items node)) (largest d (inputs_in nodes.now.items node)))) (suc (sum_by t (exprs_in nodes.now.items node) + sum_by s (inputs_in nodes.now.items node))) result }
+    ensures steps { steps.new ≡ steps.old + (length (inputs_in nodes.now.items node) + length (exprs_in nodes.now.items node)) }
 {
     let below = extent_below(&Inputs { nodes }, node, inputs, steps);
     let beside = extent_below(&Exprs { nodes }, node, own, steps);
@@ -47,12 +47,12 @@ pub fn check_limits<L: Ledger>(
     exprs: &Arena<AExpr>,
     steps: &mut Steps<L>,
 ) -> PolarsResult<()>
-    requires complete { (n : ℕ) → Contains order.now n → IsPlan nodes.now exprs.now (record { 0 = n }) }
-    requires first { NamedFirst (inputs_in nodes.now) order.now }
-    requires own { (n e : ℕ) → Contains order.now n → Contains (exprs_in nodes.now n) e → HasExtent own.now e (expr_depth exprs.now e) (expr_size exprs.now e) }
-    ensures within { IfOk result (λ _. (n : ℕ) → Contains order.now n → IsWithinLimits (node_depth nodes.now exprs.now n) (node_size nodes.now exprs.now n)) }
-    ensures flaw { (root : Node) → ((n : ℕ) → Contains order.now n → Reached (plan_of root nodes.now exprs.now) n) → ((n : ℕ) → Contains order.now n → HasNoCircle (plan_of root nodes.now exprs.now) n) → IfErr result (IsFlawOrMemory (plan_of root nodes.now exprs.now)) }
-    ensures steps { steps.new ≤ steps.old + looks_at (all_in nodes.now) order.now }
+    requires complete { (n : ℕ) → Contains order.now n → IsPlan nodes.now.items exprs.now.items (record { 0 = n }) }
+    requires first { NamedFirst (inputs_in nodes.now.items) order.now }
+    requires own { (n e : ℕ) → Contains order.now n → Contains (exprs_in nodes.now.items n) e → HasExtent own.now e (expr_depth exprs.now.items e) (expr_size exprs.now.items e) }
+    ensures within { IfOk result (λ _. (n : ℕ) → Contains order.now n → IsWithinLimits (node_depth nodes.now.items exprs.now.items n) (node_size nodes.now.items exprs.now.items n)) }
+    ensures flaw { (root : Node) → ((n : ℕ) → Contains order.now n → Reached (plan_of root nodes.now.items exprs.now.items) n) → ((n : ℕ) → Contains order.now n → HasNoCircle (plan_of root nodes.now.items exprs.now.items) n) → IfErr result (IsFlawOrMemory (plan_of root nodes.now.items exprs.now.items)) }
+    ensures steps { steps.new ≤ steps.old + looks_at (all_in nodes.now.items) order.now }
 {
     let _exprs = exprs;
     let mut table = match vec![in alloc; Extent::none(); nodes.len()] {

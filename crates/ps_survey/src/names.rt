@@ -32,9 +32,9 @@ impl Names for Operands<'_> {
     ghost use Rattle.std.specs.Prelude.{length, slice_get};
     ghost use Rattle.ps_plan.specs.Graph.{named_by, operands};
 
-    ghost named = { λ s n. named_by operands (slice_get s.exprs.now n) };
+    ghost named = { λ s n. named_by operands (slice_get s.exprs.now.items n) };
 
-    ghost count = { λ s. length s.exprs.now };
+    ghost count = { λ s. length s.exprs.now.items };
 
     fn len(&self) -> usize {
         self.exprs.len()
@@ -50,9 +50,9 @@ impl Names for Inputs<'_> {
     ghost use Rattle.ps_plan.specs.Graph.{named_by};
     ghost use Rattle.ps_plan.specs.Steps.{entry_inputs};
 
-    ghost named = { λ s n. named_by entry_inputs (slice_get s.nodes.now n) };
+    ghost named = { λ s n. named_by entry_inputs (slice_get s.nodes.now.items n) };
 
-    ghost count = { λ s. length s.nodes.now };
+    ghost count = { λ s. length s.nodes.now.items };
 
     fn len(&self) -> usize {
         self.nodes.len()
@@ -68,9 +68,9 @@ impl Names for Exprs<'_> {
     ghost use Rattle.ps_plan.specs.Graph.{named_by};
     ghost use Rattle.ps_plan.specs.Steps.{entry_exprs};
 
-    ghost named = { λ s n. named_by entry_exprs (slice_get s.nodes.now n) };
+    ghost named = { λ s n. named_by entry_exprs (slice_get s.nodes.now.items n) };
 
-    ghost count = { λ s. length s.nodes.now };
+    ghost count = { λ s. length s.nodes.now.items };
 
     fn len(&self) -> usize {
         self.nodes.len()

@@ -52,8 +52,8 @@ pub fn order_nodes<L: Ledger>(
     nodes: &Arena<IR>,
     steps: &mut Steps<L>,
 ) -> PolarsResult<Vec<usize>>
-    ensures order { (exprs : List AExpr) → MatchResult result (λ order. IsNodeOrder (plan_of root nodes.now exprs) order.items) (IsFlawOrMemory (plan_of root nodes.now exprs)) }
-    ensures steps { steps.new ≤ steps.old + 2 * length nodes.now + names_in entry_inputs nodes.now }
+    ensures order { (exprs : List AExpr) → MatchResult result (λ order. IsNodeOrder (plan_of root nodes.now.items exprs) order.items) (IsFlawOrMemory (plan_of root nodes.now.items exprs)) }
+    ensures steps { steps.new ≤ steps.old + 2 * length nodes.now.items + names_in entry_inputs nodes.now.items }
 {
     if root.0 >= nodes.len() {
         return Err(misshapen(root.0));
@@ -83,14 +83,14 @@ fn visit_expr<L: Ledger>(
     exprs: &Arena<AExpr>,
     steps: &mut Steps<L>,
 ) -> PolarsResult<()>
-    requires size { length search.old.marks.items ≡ length exprs.now }
+    requires size { length search.old.marks.items ≡ length exprs.now.items }
     requires trail { search.old.trail.items ≡ [] }
-    requires rest { AtRest (operands_in exprs.now) search.old.order.items search.old.marks.items }
-    ensures size { length search.new.marks.items ≡ length exprs.now }
+    requires rest { AtRest (operands_in exprs.now.items) search.old.order.items search.old.marks.items }
+    ensures size { length search.new.marks.items ≡ length exprs.now.items }
     ensures trail { OnOk result (search.new.trail.items ≡ []) }
-    ensures done { IfOk result (λ _. Ended (operands_in exprs.now) expr search.old.order.items search.new.order.items search.new.marks.items) }
-    ensures flaw { (root : Node) (nodes : List IR) → Reached (plan_of root nodes exprs.now) node → Contains (exprs_in nodes node) expr → IfErr result (IsFlawOrMemory (plan_of root nodes exprs.now)) }
-    ensures steps { MatchResult result (λ _. steps.new + looks_left (operands_in exprs.now) 0 search.new.marks.items ≤ steps.old + looks_left (operands_in exprs.now) 0 search.old.marks.items) (λ _. steps.new ≤ steps.old + looks_left (operands_in exprs.now) 0 search.old.marks.items) }
+    ensures done { IfOk result (λ _. Ended (operands_in exprs.now.items) expr search.old.order.items search.new.order.items search.new.marks.items) }
+    ensures flaw { (root : Node) (nodes : List IR) → Reached (plan_of root nodes exprs.now.items) node → Contains (exprs_in nodes node) expr → IfErr result (IsFlawOrMemory (plan_of root nodes exprs.now.items)) }
+    ensures steps { MatchResult result (λ _. steps.new + looks_left (operands_in exprs.now.items) 0 search.new.marks.items ≤ steps.old + looks_left (operands_in exprs.now.items) 0 search.old.marks.items) (λ _. steps.new ≤ steps.old + looks_left (operands_in exprs.now.items) 0 search.old.marks.items) }
 {
     if expr >= exprs.len() {
         return Err(misshapen(node));
@@ -109,15 +109,15 @@ fn visit_exprs<L: Ledger>(
     exprs: &Arena<AExpr>,
     steps: &mut Steps<L>,
 ) -> PolarsResult<()>
-    requires node { node < length nodes.now }
-    requires size { length search.old.marks.items ≡ length exprs.now }
+    requires node { node < length nodes.now.items }
+    requires size { length search.old.marks.items ≡ length exprs.now.items }
     requires trail { search.old.trail.items ≡ [] }
-    requires rest { AtRest (operands_in exprs.now) search.old.order.items search.old.marks.items }
-    ensures size { length search.new.marks.items ≡ length exprs.now }
+    requires rest { AtRest (operands_in exprs.now.items) search.old.order.items search.old.marks.items }
+    ensures size { length search.new.marks.items ≡ length exprs.now.items }
     ensures trail { OnOk result (search.new.trail.items ≡ []) }
-    ensures done { IfOk result (λ _. HasVisited (operands_in exprs.now) (exprs_in nodes.now node) search.old.order.items search.new.order.items search.new.marks.items) }
-    ensures flaw { (root : Node) → Reached (plan_of root nodes.now exprs.now) node → IfErr result (IsFlawOrMemory (plan_of root nodes.now exprs.now)) }
-    ensures steps { MatchResult result (λ _. steps.new + looks_left (operands_in exprs.now) 0 search.new.marks.items ≤ steps.old + looks_left (operands_in exprs.now) 0 search.old.marks.items + length (exprs_in nodes.now node)) (λ _. steps.new ≤ steps.old + looks_left (operands_in exprs.now) 0 search.old.marks.items + length (exprs_in nodes.now node)) }
+    ensures done { IfOk result (λ _. HasVisited (operands_in exprs.now.items) (exprs_in nodes.now.items node) search.old.order.items search.new.order.items search.new.marks.items) }
+    ensures flaw { (root : Node) → Reached (plan_of root nodes.now.items exprs.now.items) node → IfErr result (IsFlawOrMemory (plan_of root nodes.now.items exprs.now.items)) }
+    ensures steps { MatchResult result (λ _. steps.new + looks_left (operands_in exprs.now.items) 0 search.new.marks.items ≤ steps.old + looks_left (operands_in exprs.now.items) 0 search.old.marks.items + length (exprs_in nodes.now.items node)) (λ _. steps.new ≤ steps.old + looks_left (operands_in exprs.now.items) 0 search.old.marks.items + length (exprs_in nodes.now.items node)) }
 {
     let own = Exprs { nodes };
     let mut place = 0;
@@ -139,9 +139,9 @@ pub fn order_exprs<L: Ledger>(
     exprs: &Arena<AExpr>,
     steps: &mut Steps<L>,
 ) -> PolarsResult<Vec<usize>>
-    requires { (n : ℕ) → Contains order.now n → n < length nodes.now }
-    ensures exprs { (root : Node) → ((n : ℕ) → Contains order.now n → Reached (plan_of root nodes.now exprs.now) n) → MatchResult result (λ es. IsExprOrder (plan_of root nodes.now exprs.now) order.now es.items) (IsFlawOrMemory (plan_of root nodes.now exprs.now)) }
-    ensures steps { steps.new ≤ steps.old + (2 * length exprs.now + names_in operands exprs.now) + looks_at (exprs_in nodes.now) order.now }
+    requires { (n : ℕ) → Contains order.now n → n < length nodes.now.items }
+    ensures exprs { (root : Node) → ((n : ℕ) → Contains order.now n → Reached (plan_of root nodes.now.items exprs.now.items) n) → MatchResult result (λ es. IsExprOrder (plan_of root nodes.now.items exprs.now.items) order.now es.items) (IsFlawOrMemory (plan_of root nodes.now.items exprs.now.items)) }
+    ensures steps { steps.new ≤ steps.old + (2 * length exprs.now.items + names_in operands exprs.now.items) + looks_at (exprs_in nodes.now.items) order.now }
 {
     let mut search = match Search::new(alloc, exprs.len()) {
         Ok(search) => search,

@@ -56,8 +56,8 @@ fn survey_order<L: Ledger>(
     exprs: &Arena<AExpr>,
     steps: &mut Steps<L>,
 ) -> PolarsResult<Vec<usize>>
-    ensures survey { MatchResult result (λ order. IsSurvey (plan_of root ir.now exprs.now) order.items) (IsFlawOrMemory (plan_of root ir.now exprs.now)) }
-    ensures steps { steps.new ≤ steps.old + 4 * (length ir.now + length exprs.now + all_names ir.now exprs.now) }
+    ensures survey { MatchResult result (λ order. IsSurvey (plan_of root ir.now.items exprs.now.items) order.items) (IsFlawOrMemory (plan_of root ir.now.items exprs.now.items)) }
+    ensures steps { steps.new ≤ steps.old + 4 * (length ir.now.items + length exprs.now.items + all_names ir.now.items exprs.now.items) }
 {
     let order = match order_nodes(alloc, root, ir, steps) {
         Ok(order) => order,
@@ -87,18 +87,18 @@ pub fn survey_plan<L: Ledger>(
     exprs: &Arena<AExpr>,
     steps: &mut Steps<L>,
 ) -> PolarsResult<Survey>
-    ensures reached { IfOk result (λ s. (n : ℕ) → Contains s n ↔ Reached (plan_of root ir.now exprs.now) n) }
+    ensures reached { IfOk result (λ s. (n : ℕ) → Contains s n ↔ Reached (plan_of root ir.now.items exprs.now.items) n) }
     ensures once { IfOk result (λ s. Once s) }
-    ensures inputs_first { IfOk result (λ s. NamedFirst (inputs_in ir.now) s) }
-    ensures complete { IfOk result (λ _. (n : ℕ) → Reached (plan_of root ir.now exprs.now) n → IsPlan ir.now exprs.now (record { 0 = n })) }
-    ensures in_range { IfOk result (λ _. (n : ℕ) → Reached (plan_of root ir.now exprs.now) n → IsInRange (plan_of root ir.now exprs.now) n) }
-    ensures no_circle { IfOk result (λ _. (n : ℕ) → Reached (plan_of root ir.now exprs.now) n → HasNoCircle (plan_of root ir.now exprs.now) n) }
-    ensures depth { IfOk result (λ _. (n : ℕ) → Reached (plan_of root ir.now exprs.now) n → depth (tree_of (plan_of root ir.now exprs.now) n) ≤ 256) }
-    ensures occurrences { IfOk result (λ _. (n : ℕ) → Reached (plan_of root ir.now exprs.now) n → occurrences (tree_of (plan_of root ir.now exprs.now) n) ≤ 65536) }
-    ensures no_flaw { IfOk result (λ _. (n : ℕ) (w : Why) → Reached (plan_of root ir.now exprs.now) n → ¬ Flaw (plan_of root ir.now exprs.now) n w) }
-    ensures flaw { IfErr result (λ e. IsFlawOrMemory (plan_of root ir.now exprs.now) e) }
-    ensures refused { IfErr result (λ e. (e ≡ refusal.OutOfMemory) ⊎ ((n : ℕ) × (w : Why) × (e ≡ refusal_error n (invalid_plan w)) × ((F : Functions) → IsRefused F (plan_of root ir.now exprs.now) n (invalid_plan w)))) }
-    ensures steps { steps.new ≤ steps.old + 4 * (length ir.now + length exprs.now + all_names ir.now exprs.now) }
+    ensures inputs_first { IfOk result (λ s. NamedFirst (inputs_in ir.now.items) s) }
+    ensures complete { IfOk result (λ _. (n : ℕ) → Reached (plan_of root ir.now.items exprs.now.items) n → IsPlan ir.now.items exprs.now.items (record { 0 = n })) }
+    ensures in_range { IfOk result (λ _. (n : ℕ) → Reached (plan_of root ir.now.items exprs.now.items) n → IsInRange (plan_of root ir.now.items exprs.now.items) n) }
+    ensures no_circle { IfOk result (λ _. (n : ℕ) → Reached (plan_of root ir.now.items exprs.now.items) n → HasNoCircle (plan_of root ir.now.items exprs.now.items) n) }
+    ensures depth { IfOk result (λ _. (n : ℕ) → Reached (plan_of root ir.now.items exprs.now.items) n → depth (tree_of (plan_of root ir.now.items exprs.now.items) n) ≤ 256) }
+    ensures occurrences { IfOk result (λ _. (n : ℕ) → Reached (plan_of root ir.now.items exprs.now.items) n → occurrences (tree_of (plan_of root ir.now.items exprs.now.items) n) ≤ 65536) }
+    ensures no_flaw { IfOk result (λ _. (n : ℕ) (w : Why) → Reached (plan_of root ir.now.items exprs.now.items) n → ¬ Flaw (plan_of root ir.now.items exprs.now.items) n w) }
+    ensures flaw { IfErr result (λ e. IsFlawOrMemory (plan_of root ir.now.items exprs.now.items) e) }
+    ensures refused { IfErr result (λ e. (e ≡ refusal.OutOfMemory) ⊎ ((n : ℕ) × (w : Why) × (e ≡ refusal_error n (invalid_plan w)) × ((F : Functions) → IsRefused F (plan_of root ir.now.items exprs.now.items) n (invalid_plan w)))) }
+    ensures steps { steps.new ≤ steps.old + 4 * (length ir.now.items + length exprs.now.items + all_names ir.now.items exprs.now.items) }
 {
     match survey_order(alloc, root, ir, exprs, steps) {
         Ok(order) => Ok(Survey { order }),

@@ -33,10 +33,10 @@ pub fn expr_kind(
     arena: &Arena<AExpr>,
     schema: &Schema,
 ) -> PolarsResult<DataType>
-    requires { IsExpression arena.now expr }
-    ensures kind { IfOk result (λ k. kind_over schema.now (tree_at arena.now expr) ≡ Some k) }
-    ensures refused { IfErr result (IsTypingError at schema.now (tree_at arena.now expr)) }
-    ensures exact { IfErr result (λ e. e ≢ PolarsError.OutOfMemory → kind_over schema.now (tree_at arena.now expr) ≡ None) }
+    requires { IsExpression arena.now.items expr }
+    ensures kind { IfOk result (λ k. kind_over schema.now (tree_at arena.now.items expr) ≡ Some k) }
+    ensures refused { IfErr result (IsTypingError at schema.now (tree_at arena.now.items expr)) }
+    ensures exact { IfErr result (λ e. e ≢ PolarsError.OutOfMemory → kind_over schema.now (tree_at arena.now.items expr) ≡ None) }
 {
     kinds_are_exact();
     uncounted_kind::<Brand>(alloc, at, expr, arena, schema, Blank::new(1))
@@ -50,12 +50,12 @@ fn uncounted_kind<L: Ledger>(
     schema: &Schema,
     blank: Blank,
 ) -> PolarsResult<DataType>
-    requires expression { IsExpression arena.now expr }
+    requires expression { IsExpression arena.now.items expr }
     requires name { blank.name ≡ L.name }
     requires parts { blank.parts ≡ L.parts }
     requires some { 0 < L.parts }
-    ensures kind { IfOk result (λ k. kind_over schema.now (tree_at arena.now expr) ≡ Some k) }
-    ensures refused { IfErr result (IsTypingError at schema.now (tree_at arena.now expr)) }
+    ensures kind { IfOk result (λ k. kind_over schema.now (tree_at arena.now.items expr) ≡ Some k) }
+    ensures refused { IfErr result (IsTypingError at schema.now (tree_at arena.now.items expr)) }
 {
     let mut steps = Steps::<L>::new(blank);
     let typed = type_expr(alloc, at, expr, arena, schema, &mut steps)?;
@@ -83,11 +83,11 @@ pub fn type_expr<L: Ledger>(
     schema: &Schema,
     steps: &mut Steps<L>,
 ) -> PolarsResult<Typed>
-    requires { IsExpression arena.now expr }
-    ensures kind { IfOk result (λ t. kind_over schema.now (tree_at arena.now expr) ≡ Some t.dtype) }
-    ensures scalar { IfOk result (λ t. t.is_scalar ≡ is_scalar (tree_at arena.now expr)) }
-    ensures refused { IfErr result (IsTypingError at schema.now (tree_at arena.now expr)) }
-    ensures steps { steps.new ≤ steps.old + tree_size (tree_at arena.now expr) }
+    requires { IsExpression arena.now.items expr }
+    ensures kind { IfOk result (λ t. kind_over schema.now (tree_at arena.now.items expr) ≡ Some t.dtype) }
+    ensures scalar { IfOk result (λ t. t.is_scalar ≡ is_scalar (tree_at arena.now.items expr)) }
+    ensures refused { IfErr result (IsTypingError at schema.now (tree_at arena.now.items expr)) }
+    ensures steps { steps.new ≤ steps.old + tree_size (tree_at arena.now.items expr) }
 {
     steps.tick();
     match entry(expr, arena) {
@@ -246,11 +246,11 @@ fn type_keys<L: Ledger>(
     schema: &Schema,
     steps: &mut Steps<L>,
 ) -> PolarsResult<bool>
-    requires { AreComplete (trees_of (tree_at arena.now) keys.now) }
-    ensures kinds { IfOk result (λ _. IsTrue (have_kinds schema.now (trees_of (tree_at arena.now) keys.now))) }
-    ensures scalar { IfOk result (λ all. all ≡ are_scalar (trees_of (tree_at arena.now) keys.now)) }
-    ensures refused { IfErr result (IsTypingErrorOfAny at schema.now (trees_of (tree_at arena.now) keys.now)) }
-    ensures steps { steps.new ≤ steps.old + trees_size (trees_of (tree_at arena.now) keys.now) }
+    requires { AreComplete (trees_of (tree_at arena.now.items) keys.now) }
+    ensures kinds { IfOk result (λ _. IsTrue (have_kinds schema.now (trees_of (tree_at arena.now.items) keys.now))) }
+    ensures scalar { IfOk result (λ all. all ≡ are_scalar (trees_of (tree_at arena.now.items) keys.now)) }
+    ensures refused { IfErr result (IsTypingErrorOfAny at schema.now (trees_of (tree_at arena.now.items) keys.now)) }
+    ensures steps { steps.new ≤ steps.old + trees_size (trees_of (tree_at arena.now.items) keys.now) }
 {
     let mut all_scalar = true;
     for key in keys {

@@ -15,8 +15,8 @@ use std::sync::ledger::{Blank, Ledger};
 /// Whether an expression gives one cell, whatever the table.
 #[cycle(scalar)]
 pub fn is_scalar(expr: Node, arena: &Arena<AExpr>) -> bool
-    requires { IsExpression arena.now expr }
-    ensures { result ≡ is_scalar_tree (tree_at arena.now expr) }
+    requires { IsExpression arena.now.items expr }
+    ensures { result ≡ is_scalar_tree (tree_at arena.now.items expr) }
 {
     match entry(expr, arena) {
         AExpr::Literal(_) | AExpr::Agg(_) | AExpr::Len => true,
@@ -39,8 +39,8 @@ pub fn is_scalar(expr: Node, arena: &Arena<AExpr>) -> bool
 // Whether each of these expressions gives one cell.
 #[cycle(scalar)]
 fn are_scalar(exprs: &[Node], arena: &Arena<AExpr>) -> bool
-    requires { AreComplete (trees_of (tree_at arena.now) exprs.now) }
-    ensures { result ≡ are_scalar_trees (trees_of (tree_at arena.now) exprs.now) }
+    requires { AreComplete (trees_of (tree_at arena.now.items) exprs.now) }
+    ensures { result ≡ are_scalar_trees (trees_of (tree_at arena.now.items) exprs.now) }
 {
     for expr in exprs {
         if !is_scalar(*expr, arena) {
@@ -53,8 +53,8 @@ fn are_scalar(exprs: &[Node], arena: &Arena<AExpr>) -> bool
 /// Whether an expression has the same answer over every table: nothing in it is a column, or the table's height.
 #[cycle(independent)]
 pub fn is_independent(expr: Node, arena: &Arena<AExpr>) -> bool
-    requires { IsExpression arena.now expr }
-    ensures { result ≡ is_independent_tree (tree_at arena.now expr) }
+    requires { IsExpression arena.now.items expr }
+    ensures { result ≡ is_independent_tree (tree_at arena.now.items expr) }
 {
     match entry(expr, arena) {
         AExpr::Column(_) | AExpr::Len => false,
@@ -95,8 +95,8 @@ pub fn is_independent(expr: Node, arena: &Arena<AExpr>) -> bool
 // Whether each of these expressions has the same answer over every table.
 #[cycle(independent)]
 fn are_independent(exprs: &[Node], arena: &Arena<AExpr>) -> bool
-    requires { AreComplete (trees_of (tree_at arena.now) exprs.now) }
-    ensures { result ≡ every_part_of_all reads_no_input (trees_of (tree_at arena.now) exprs.now) }
+    requires { AreComplete (trees_of (tree_at arena.now.items) exprs.now) }
+    ensures { result ≡ every_part_of_all reads_no_input (trees_of (tree_at arena.now.items) exprs.now) }
 {
     for expr in exprs {
         if !is_independent(*expr, arena) {
@@ -133,10 +133,10 @@ pub fn independence_of<L: Ledger>(
     arena: &Arena<AExpr>,
     steps: &mut Steps<L>,
 ) -> Independence
-    requires { IsExpression arena.now expr }
-    ensures independent { result.is_independent ≡ is_independent_tree (tree_at arena.now expr) }
-    ensures aggregates { result.has_literal_aggregate ≡ some_part is_literal_aggregate (tree_at arena.now expr) }
-    ensures steps { steps.new ≤ steps.old + tree_size (tree_at arena.now expr) }
+    requires { IsExpression arena.now.items expr }
+    ensures independent { result.is_independent ≡ is_independent_tree (tree_at arena.now.items expr) }
+    ensures aggregates { result.has_literal_aggregate ≡ some_part is_literal_aggregate (tree_at arena.now.items expr) }
+    ensures steps { steps.new ≤ steps.old + tree_size (tree_at arena.now.items expr) }
 {
     steps.tick();
     match entry(expr, arena) {
@@ -203,10 +203,10 @@ fn independence_of_all<L: Ledger>(
     arena: &Arena<AExpr>,
     steps: &mut Steps<L>,
 ) -> Independence
-    requires { AreComplete (trees_of (tree_at arena.now) exprs.now) }
-    ensures independent { result.is_independent ≡ every_part_of_all reads_no_input (trees_of (tree_at arena.now) exprs.now) }
-    ensures aggregates { result.has_literal_aggregate ≡ list_any is_literal_aggregate (trees_parts (trees_of (tree_at arena.now) exprs.now)) }
-    ensures steps { steps.new ≤ steps.old + trees_size (trees_of (tree_at arena.now) exprs.now) }
+    requires { AreComplete (trees_of (tree_at arena.now.items) exprs.now) }
+    ensures independent { result.is_independent ≡ every_part_of_all reads_no_input (trees_of (tree_at arena.now.items) exprs.now) }
+    ensures aggregates { result.has_literal_aggregate ≡ list_any is_literal_aggregate (trees_parts (trees_of (tree_at arena.now.items) exprs.now)) }
+    ensures steps { steps.new ≤ steps.old + trees_size (trees_of (tree_at arena.now.items) exprs.now) }
 {
     let mut all = Independence {
         is_independent: true,
@@ -220,18 +220,18 @@ fn independence_of_all<L: Ledger>(
 
 /// Whether an aggregate in an expression is over one that is independent of its input.
 pub fn has_literal_aggregate(expr: Node, arena: &Arena<AExpr>) -> bool
-    requires { IsExpression arena.now expr }
-    ensures { result ≡ some_part is_literal_aggregate (tree_at arena.now expr) }
+    requires { IsExpression arena.now.items expr }
+    ensures { result ≡ some_part is_literal_aggregate (tree_at arena.now.items expr) }
 {
     looks_for_aggregate::<Brand>(expr, arena, Blank::new(1))
 }
 
 fn looks_for_aggregate<L: Ledger>(expr: Node, arena: &Arena<AExpr>, blank: Blank) -> bool
-    requires expression { IsExpression arena.now expr }
+    requires expression { IsExpression arena.now.items expr }
     requires name { blank.name ≡ L.name }
     requires parts { blank.parts ≡ L.parts }
     requires some { 0 < L.parts }
-    ensures { result ≡ some_part is_literal_aggregate (tree_at arena.now expr) }
+    ensures { result ≡ some_part is_literal_aggregate (tree_at arena.now.items expr) }
 {
     let mut steps = Steps::<L>::new(blank);
     independence_of(expr, arena, &mut steps).has_literal_aggregate

@@ -49,9 +49,9 @@ pub fn check_caches<L: Ledger>(
     ir: &Arena<IR>,
     steps: &mut Steps<L>,
 ) -> PolarsResult<()>
-    requires { (n : ℕ) → Contains order.now n → n < length ir.now }
-    ensures one_input { OnOk result (HaveOneInput ir.now order.now) }
-    ensures refused { IfErr result (IsCacheError ir.now order.now) }
+    requires { (n : ℕ) → Contains order.now n → n < length ir.now.items }
+    ensures one_input { OnOk result (HaveOneInput ir.now.items order.now) }
+    ensures refused { IfErr result (IsCacheError ir.now.items order.now) }
     ensures steps { steps.new ≤ steps.old + length order.now }
 {
     let mut inputs = HashMap::new(alloc);

@@ -64,12 +64,12 @@ pub fn push_typed<L: Ledger>(
     schema: &mut Schema,
     steps: &mut Steps<L>,
 ) -> PolarsResult<bool>
-    requires { AllByRecursion IsComplete (exprs_of (named_trees (tree_at arena.now) exprs.now)) }
-    ensures fields { OnOk result (option_map (λ fs. schema.old ++ fs) (fields_of (named_trees (tree_at arena.now) exprs.now) input.now) ≡ Some schema.new) }
+    requires { AllByRecursion IsComplete (exprs_of (named_trees (tree_at arena.now.items) exprs.now)) }
+    ensures fields { OnOk result (option_map (λ fs. schema.old ++ fs) (fields_of (named_trees (tree_at arena.now.items) exprs.now) input.now) ≡ Some schema.new) }
     ensures distinct { OnOk result (IsTrue (has_distinct_names schema.old) → IsTrue (has_distinct_names schema.new)) }
-    ensures scalar { IfOk result (λ all. list_any not_scalar (exprs_of (named_trees (tree_at arena.now) exprs.now)) ≡ not all) }
-    ensures refused { IfErr result (IsFieldError at input.now (names_of schema.old) (named_trees (tree_at arena.now) exprs.now)) }
-    ensures steps { steps.new ≤ steps.old + all_sizes (exprs_of (named_trees (tree_at arena.now) exprs.now)) }
+    ensures scalar { IfOk result (λ all. list_any not_scalar (exprs_of (named_trees (tree_at arena.now.items) exprs.now)) ≡ not all) }
+    ensures refused { IfErr result (IsFieldError at input.now (names_of schema.old) (named_trees (tree_at arena.now.items) exprs.now)) }
+    ensures steps { steps.new ≤ steps.old + all_sizes (exprs_of (named_trees (tree_at arena.now.items) exprs.now)) }
 {
     let mut all_scalar = true;
     for expr in exprs {

@@ -49,8 +49,8 @@ fn without_keys(
     keys: &[ExprIR],
     arena: &Arena<AExpr>,
 ) -> PolarsResult<Schema>
-    requires { AllByRecursion IsComplete (key_trees (tree_at arena.now) keys.now) }
-    ensures columns { IfOk result (λ s. s ≡ without (bare_names (key_trees (tree_at arena.now) keys.now)) schema.now) }
+    requires { AllByRecursion IsComplete (key_trees (tree_at arena.now.items) keys.now) }
+    ensures columns { IfOk result (λ s. s ≡ without (bare_names (key_trees (tree_at arena.now.items) keys.now)) schema.now) }
     ensures memory { OnErr result (result ≡ Err PolarsError.OutOfMemory) }
 {
     schema.names_differ();
@@ -69,8 +69,8 @@ fn left_columns(
     arena: &Arena<AExpr>,
     left: &Schema,
 ) -> PolarsResult<Schema>
-    requires { AllByRecursion IsComplete (key_trees (tree_at arena.now) left_on.now) }
-    ensures columns { IfOk result (λ s. (o : JoinStep) → o.left_on ≡ key_trees (tree_at arena.now) left_on.now → s ≡ left_part how o left.now) }
+    requires { AllByRecursion IsComplete (key_trees (tree_at arena.now.items) left_on.now) }
+    ensures columns { IfOk result (λ s. (o : JoinStep) → o.left_on ≡ key_trees (tree_at arena.now.items) left_on.now → s ≡ left_part how o left.now) }
     ensures memory { OnErr result (result ≡ Err PolarsError.OutOfMemory) }
 {
     match how {
@@ -93,8 +93,8 @@ fn right_columns(
     arena: &Arena<AExpr>,
     right: &Schema,
 ) -> PolarsResult<Schema>
-    requires { AllByRecursion IsComplete (key_trees (tree_at arena.now) right_on.now) }
-    ensures columns { IfOk result (λ s. (o : JoinStep) → o.right_on ≡ key_trees (tree_at arena.now) right_on.now → s ≡ right_part how o right.now) }
+    requires { AllByRecursion IsComplete (key_trees (tree_at arena.now.items) right_on.now) }
+    ensures columns { IfOk result (λ s. (o : JoinStep) → o.right_on ≡ key_trees (tree_at arena.now.items) right_on.now → s ≡ right_part how o right.now) }
     ensures memory { OnErr result (result ≡ Err PolarsError.OutOfMemory) }
 {
     match how {
@@ -117,12 +117,12 @@ pub fn join_schema<L: Ledger>(
     right: &Schema,
     steps: &mut Steps<L>,
 ) -> PolarsResult<Schema>
-    requires left_keys { AllByRecursion IsComplete (key_trees (tree_at arena.now) left_on.now) }
-    requires right_keys { AllByRecursion IsComplete (key_trees (tree_at arena.now) right_on.now) }
+    requires left_keys { AllByRecursion IsComplete (key_trees (tree_at arena.now.items) left_on.now) }
+    requires right_keys { AllByRecursion IsComplete (key_trees (tree_at arena.now.items) right_on.now) }
     requires paired { length left_on.now ≡ length right_on.now }
-    ensures given { IfOk result (λ s. (F : Functions) → GivesSchema F (join_step (record { left_on = key_trees (tree_at arena.now) left_on.now; right_on = key_trees (tree_at arena.now) right_on.now; args = args.now })) (left.now ∷ right.now ∷ []) s) }
-    ensures refused { IfErr result (λ e. (F : Functions) → IsNodeError F at (join_step (record { left_on = key_trees (tree_at arena.now) left_on.now; right_on = key_trees (tree_at arena.now) right_on.now; args = args.now })) (left.now ∷ right.now ∷ []) e) }
-    ensures steps { steps.new ≤ steps.old + (all_sizes (key_trees (tree_at arena.now) left_on.now) + all_sizes (key_trees (tree_at arena.now) right_on.now)) }
+    ensures given { IfOk result (λ s. (F : Functions) → GivesSchema F (join_step (record { left_on = key_trees (tree_at arena.now.items) left_on.now; right_on = key_trees (tree_at arena.now.items) right_on.now; args = args.now })) (left.now ∷ right.now ∷ []) s) }
+    ensures refused { IfErr result (λ e. (F : Functions) → IsNodeError F at (join_step (record { left_on = key_trees (tree_at arena.now.items) left_on.now; right_on = key_trees (tree_at arena.now.items) right_on.now; args = args.now })) (left.now ∷ right.now ∷ []) e) }
+    ensures steps { steps.new ≤ steps.old + (all_sizes (key_trees (tree_at arena.now.items) left_on.now) + all_sizes (key_trees (tree_at arena.now.items) right_on.now)) }
 {
     kinds_are_exact();
     let left_kinds = key_kinds(alloc, at, left_on, arena, left, steps)?;

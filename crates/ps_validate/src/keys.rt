@@ -35,10 +35,10 @@ pub fn key_kinds<L: Ledger>(
     input: &Schema,
     steps: &mut Steps<L>,
 ) -> PolarsResult<Vec<DataType>>
-    requires { AllByRecursion IsComplete (key_trees (tree_at arena.now) keys.now) }
-    ensures kinds { IfOk result (λ ks. map Some ks.items ≡ map (kind_over input.now) (key_trees (tree_at arena.now) keys.now)) }
-    ensures refused { IfErr result (IsErrorAmong at input.now (all_parts (key_trees (tree_at arena.now) keys.now))) }
-    ensures steps { steps.new ≤ steps.old + all_sizes (key_trees (tree_at arena.now) keys.now) }
+    requires { AllByRecursion IsComplete (key_trees (tree_at arena.now.items) keys.now) }
+    ensures kinds { IfOk result (λ ks. map Some ks.items ≡ map (kind_over input.now) (key_trees (tree_at arena.now.items) keys.now)) }
+    ensures refused { IfErr result (IsErrorAmong at input.now (all_parts (key_trees (tree_at arena.now.items) keys.now))) }
+    ensures steps { steps.new ≤ steps.old + all_sizes (key_trees (tree_at arena.now.items) keys.now) }
 {
     let mut kinds = Vec::new(alloc);
     for key in keys {
@@ -65,8 +65,8 @@ pub fn same_kinds(left: &[DataType], right: &[DataType]) -> bool
 
 // The name of an expression that is a column.
 fn column_name(expr: Node, arena: &Arena<AExpr>) -> Option<&PlSmallStr>
-    requires { IsExpression arena.now expr }
-    ensures { MatchOption result ((ts : List Tree) → bare_names (tree_at arena.now expr ∷ ts) ≡ bare_names ts) (λ name. tree_at arena.now expr ≡ Tree.column name.now) }
+    requires { IsExpression arena.now.items expr }
+    ensures { MatchOption result ((ts : List Tree) → bare_names (tree_at arena.now.items expr ∷ ts) ≡ bare_names ts) (λ name. tree_at arena.now.items expr ≡ Tree.column name.now) }
 {
     match entry(expr, arena) {
         AExpr::Column(name) => Some(name),
@@ -82,8 +82,8 @@ pub fn column_names(
     keys: &[ExprIR],
     arena: &Arena<AExpr>,
 ) -> PolarsResult<HashSet<String>>
-    requires { AllByRecursion IsComplete (key_trees (tree_at arena.now) keys.now) }
-    ensures names { IfOk result (λ names. (n : Name) → contains_text names n ≡ is_among n (bare_names (key_trees (tree_at arena.now) keys.now))) }
+    requires { AllByRecursion IsComplete (key_trees (tree_at arena.now.items) keys.now) }
+    ensures names { IfOk result (λ names. (n : Name) → contains_text names n ≡ is_among n (bare_names (key_trees (tree_at arena.now.items) keys.now))) }
     ensures memory { OnErr result (result ≡ Err PolarsError.OutOfMemory) }
 {
     let mut names = HashSet::new(alloc);

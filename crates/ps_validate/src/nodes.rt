@@ -38,12 +38,12 @@ fn node_schema<F: Functions, L: Ledger>(
     schemas: &Schemas,
     steps: &mut Steps<L>,
 ) -> PolarsResult<Schema>
-    requires fit { IsWellFormed (F.counted functions.now) (entry_step (tree_at exprs.now) entry.now) (entry_inputs entry.now) }
-    requires complete { AllByRecursion IsComplete (step_exprs (entry_step (tree_at exprs.now) entry.now)) }
+    requires fit { IsWellFormed (F.counted functions.now) (entry_step (tree_at exprs.now.items) entry.now) (entry_inputs entry.now) }
+    requires complete { AllByRecursion IsComplete (step_exprs (entry_step (tree_at exprs.now.items) entry.now)) }
     requires known { AreKnown schemas.now (entry_inputs entry.now) }
-    ensures given { IfOk result (λ s. GivesSchema (record { count = F.counted functions.now; streams = F.streams; answer = F.answer; declared = F.declared }) (entry_step (tree_at exprs.now) entry.now) (schemas_in schemas.now (entry_inputs entry.now)) s) }
-    ensures refused { IfErr result (λ e. IsNodeError (record { count = F.counted functions.now; streams = F.streams; answer = F.answer; declared = F.declared }) at (entry_step (tree_at exprs.now) entry.now) (schemas_in schemas.now (entry_inputs entry.now)) e) }
-    ensures steps { steps.new ≤ steps.old + 2 * all_sizes (step_exprs (entry_step (tree_at exprs.now) entry.now)) }
+    ensures given { IfOk result (λ s. GivesSchema (record { count = F.counted functions.now; streams = F.streams; answer = F.answer; declared = F.declared }) (entry_step (tree_at exprs.now.items) entry.now) (schemas_in schemas.now (entry_inputs entry.now)) s) }
+    ensures refused { IfErr result (λ e. IsNodeError (record { count = F.counted functions.now; streams = F.streams; answer = F.answer; declared = F.declared }) at (entry_step (tree_at exprs.now.items) entry.now) (schemas_in schemas.now (entry_inputs entry.now)) e) }
+    ensures steps { steps.new ≤ steps.old + 2 * all_sizes (step_exprs (entry_step (tree_at exprs.now.items) entry.now)) }
 {
     match entry {
         IR::DataFrameScan { df, projection } => match projection {
@@ -158,11 +158,11 @@ pub fn check_node<F: Functions, L: Ledger>(
     schemas: &Schemas,
     steps: &mut Steps<L>,
 ) -> PolarsResult<Schema>
-    requires complete { AllByRecursion IsComplete (step_exprs (entry_step (tree_at exprs.now) entry.now)) }
+    requires complete { AllByRecursion IsComplete (step_exprs (entry_step (tree_at exprs.now.items) entry.now)) }
     requires known { AreKnown schemas.now (entry_inputs entry.now) }
-    ensures checked { IfOk result (λ s. IsChecked (record { count = F.counted functions.now; streams = F.streams; answer = F.answer; declared = F.declared }) root at (entry_step (tree_at exprs.now) entry.now) (entry_inputs entry.now) (schemas_in schemas.now (entry_inputs entry.now)) s) }
-    ensures refused { IfErr result (λ e. IsCheckError (record { count = F.counted functions.now; streams = F.streams; answer = F.answer; declared = F.declared }) root at (entry_step (tree_at exprs.now) entry.now) (entry_inputs entry.now) (schemas_in schemas.now (entry_inputs entry.now)) e) }
-    ensures steps { steps.new ≤ steps.old + 2 * all_sizes (step_exprs (entry_step (tree_at exprs.now) entry.now)) }
+    ensures checked { IfOk result (λ s. IsChecked (record { count = F.counted functions.now; streams = F.streams; answer = F.answer; declared = F.declared }) root at (entry_step (tree_at exprs.now.items) entry.now) (entry_inputs entry.now) (schemas_in schemas.now (entry_inputs entry.now)) s) }
+    ensures refused { IfErr result (λ e. IsCheckError (record { count = F.counted functions.now; streams = F.streams; answer = F.answer; declared = F.declared }) root at (entry_step (tree_at exprs.now.items) entry.now) (entry_inputs entry.now) (schemas_in schemas.now (entry_inputs entry.now)) e) }
+    ensures steps { steps.new ≤ steps.old + 2 * all_sizes (step_exprs (entry_step (tree_at exprs.now.items) entry.now)) }
 {
     check_place(root, at, entry)?;
     check_entry(at, entry, functions.count())?;

@@ -37,10 +37,10 @@ pub fn select_schema<L: Ledger>(
     input: &Schema,
     steps: &mut Steps<L>,
 ) -> PolarsResult<Schema>
-    requires { AllByRecursion IsComplete (exprs_of (named_trees (tree_at arena.now) exprs.now)) }
-    ensures given { IfOk result (λ s. (F : Functions) → GivesSchema F (select_step (named_trees (tree_at arena.now) exprs.now)) (input.now ∷ []) s) }
-    ensures refused { IfErr result (λ e. (F : Functions) → IsNodeError F at (select_step (named_trees (tree_at arena.now) exprs.now)) (input.now ∷ []) e) }
-    ensures steps { steps.new ≤ steps.old + all_sizes (exprs_of (named_trees (tree_at arena.now) exprs.now)) }
+    requires { AllByRecursion IsComplete (exprs_of (named_trees (tree_at arena.now.items) exprs.now)) }
+    ensures given { IfOk result (λ s. (F : Functions) → GivesSchema F (select_step (named_trees (tree_at arena.now.items) exprs.now)) (input.now ∷ []) s) }
+    ensures refused { IfErr result (λ e. (F : Functions) → IsNodeError F at (select_step (named_trees (tree_at arena.now.items) exprs.now)) (input.now ∷ []) e) }
+    ensures steps { steps.new ≤ steps.old + all_sizes (exprs_of (named_trees (tree_at arena.now.items) exprs.now)) }
 {
     kinds_are_exact();
     let mut schema = Schema::new(alloc);
@@ -58,10 +58,10 @@ pub fn filter_schema<L: Ledger>(
     input: &Schema,
     steps: &mut Steps<L>,
 ) -> PolarsResult<Schema>
-    requires { IsExpression arena.now predicate.now.node }
-    ensures given { IfOk result (λ s. (F : Functions) → GivesSchema F (filter_step (tree_at arena.now predicate.now.node)) (input.now ∷ []) s) }
-    ensures refused { IfErr result (λ e. (F : Functions) → IsNodeError F at (filter_step (tree_at arena.now predicate.now.node)) (input.now ∷ []) e) }
-    ensures steps { steps.new ≤ steps.old + tree_size (tree_at arena.now predicate.now.node) }
+    requires { IsExpression arena.now.items predicate.now.node }
+    ensures given { IfOk result (λ s. (F : Functions) → GivesSchema F (filter_step (tree_at arena.now.items predicate.now.node)) (input.now ∷ []) s) }
+    ensures refused { IfErr result (λ e. (F : Functions) → IsNodeError F at (filter_step (tree_at arena.now.items predicate.now.node)) (input.now ∷ []) e) }
+    ensures steps { steps.new ≤ steps.old + tree_size (tree_at arena.now.items predicate.now.node) }
 {
     kinds_are_exact();
     let typed = type_expr(alloc, at, predicate.node, arena, input, steps)?;
@@ -81,10 +81,10 @@ pub fn sort_schema<L: Ledger>(
     input: &Schema,
     steps: &mut Steps<L>,
 ) -> PolarsResult<Schema>
-    requires { AllByRecursion IsComplete (key_trees (tree_at arena.now) keys.now) }
-    ensures given { IfOk result (λ s. (F : Functions) (descending nulls_last : List Bool) (cut : Cut) → GivesSchema F (sort_step (record { keys = key_trees (tree_at arena.now) keys.now; descending = descending; nulls_last = nulls_last; cut = cut })) (input.now ∷ []) s) }
-    ensures refused { IfErr result (λ e. (F : Functions) (descending nulls_last : List Bool) (cut : Cut) → IsNodeError F at (sort_step (record { keys = key_trees (tree_at arena.now) keys.now; descending = descending; nulls_last = nulls_last; cut = cut })) (input.now ∷ []) e) }
-    ensures steps { steps.new ≤ steps.old + all_sizes (key_trees (tree_at arena.now) keys.now) }
+    requires { AllByRecursion IsComplete (key_trees (tree_at arena.now.items) keys.now) }
+    ensures given { IfOk result (λ s. (F : Functions) (descending nulls_last : List Bool) (cut : Cut) → GivesSchema F (sort_step (record { keys = key_trees (tree_at arena.now.items) keys.now; descending = descending; nulls_last = nulls_last; cut = cut })) (input.now ∷ []) s) }
+    ensures refused { IfErr result (λ e. (F : Functions) (descending nulls_last : List Bool) (cut : Cut) → IsNodeError F at (sort_step (record { keys = key_trees (tree_at arena.now.items) keys.now; descending = descending; nulls_last = nulls_last; cut = cut })) (input.now ∷ []) e) }
+    ensures steps { steps.new ≤ steps.old + all_sizes (key_trees (tree_at arena.now.items) keys.now) }
 {
     kinds_are_exact();
     key_kinds(alloc, at, keys, arena, input, steps)?;
@@ -99,11 +99,11 @@ fn check_aggregates<L: Ledger>(
     arena: &Arena<AExpr>,
     steps: &mut Steps<L>,
 ) -> PolarsResult<()>
-    requires { AllByRecursion IsComplete (exprs_of (named_trees (tree_at arena.now) aggs.now)) }
-    ensures none { OnOk result (IsFalse (list_any (some_part is_literal_aggregate) (exprs_of (named_trees (tree_at arena.now) aggs.now)))) }
-    ensures some { OnErr result (IsTrue (list_any (some_part is_literal_aggregate) (exprs_of (named_trees (tree_at arena.now) aggs.now)))) }
+    requires { AllByRecursion IsComplete (exprs_of (named_trees (tree_at arena.now.items) aggs.now)) }
+    ensures none { OnOk result (IsFalse (list_any (some_part is_literal_aggregate) (exprs_of (named_trees (tree_at arena.now.items) aggs.now)))) }
+    ensures some { OnErr result (IsTrue (list_any (some_part is_literal_aggregate) (exprs_of (named_trees (tree_at arena.now.items) aggs.now)))) }
     ensures error { OnErr result (result ≡ Err (PolarsError.Unsupported at What.LiteralAggregate)) }
-    ensures steps { steps.new ≤ steps.old + all_sizes (exprs_of (named_trees (tree_at arena.now) aggs.now)) }
+    ensures steps { steps.new ≤ steps.old + all_sizes (exprs_of (named_trees (tree_at arena.now.items) aggs.now)) }
 {
     for agg in aggs {
         let independence = independence_of(agg.node, arena, steps);
@@ -127,11 +127,11 @@ pub fn group_by_schema<L: Ledger>(
     input: &Schema,
     steps: &mut Steps<L>,
 ) -> PolarsResult<Schema>
-    requires keys { AllByRecursion IsComplete (exprs_of (named_trees (tree_at arena.now) keys.now)) }
-    requires aggregates { AllByRecursion IsComplete (exprs_of (named_trees (tree_at arena.now) aggs.now)) }
-    ensures given { IfOk result (λ s. (F : Functions) (maintain : Bool) (cut : Cut) → GivesSchema F (group_step (tree_at arena.now) keys.now aggs.now maintain cut) (input.now ∷ []) s) }
-    ensures refused { IfErr result (λ e. (F : Functions) (maintain : Bool) (cut : Cut) → IsNodeError F at (group_step (tree_at arena.now) keys.now aggs.now maintain cut) (input.now ∷ []) e) }
-    ensures steps { steps.new ≤ steps.old + all_sizes (exprs_of (named_trees (tree_at arena.now) keys.now)) + 2 * all_sizes (exprs_of (named_trees (tree_at arena.now) aggs.now)) }
+    requires keys { AllByRecursion IsComplete (exprs_of (named_trees (tree_at arena.now.items) keys.now)) }
+    requires aggregates { AllByRecursion IsComplete (exprs_of (named_trees (tree_at arena.now.items) aggs.now)) }
+    ensures given { IfOk result (λ s. (F : Functions) (maintain : Bool) (cut : Cut) → GivesSchema F (group_step (tree_at arena.now.items) keys.now aggs.now maintain cut) (input.now ∷ []) s) }
+    ensures refused { IfErr result (λ e. (F : Functions) (maintain : Bool) (cut : Cut) → IsNodeError F at (group_step (tree_at arena.now.items) keys.now aggs.now maintain cut) (input.now ∷ []) e) }
+    ensures steps { steps.new ≤ steps.old + all_sizes (exprs_of (named_trees (tree_at arena.now.items) keys.now)) + 2 * all_sizes (exprs_of (named_trees (tree_at arena.now.items) aggs.now)) }
 {
     kinds_are_exact();
     let mut schema = Schema::new(alloc);

@@ -34,10 +34,10 @@ pub fn hstack_schema<L: Ledger>(
     input: &Schema,
     steps: &mut Steps<L>,
 ) -> PolarsResult<Schema>
-    requires { AllByRecursion IsComplete (exprs_of (named_trees (tree_at arena.now) exprs.now)) }
-    ensures given { IfOk result (λ s. (F : Functions) → GivesSchema F (hstack_step (named_trees (tree_at arena.now) exprs.now)) (input.now ∷ []) s) }
-    ensures refused { IfErr result (λ e. (F : Functions) → IsNodeError F at (hstack_step (named_trees (tree_at arena.now) exprs.now)) (input.now ∷ []) e) }
-    ensures steps { steps.new ≤ steps.old + all_sizes (exprs_of (named_trees (tree_at arena.now) exprs.now)) }
+    requires { AllByRecursion IsComplete (exprs_of (named_trees (tree_at arena.now.items) exprs.now)) }
+    ensures given { IfOk result (λ s. (F : Functions) → GivesSchema F (hstack_step (named_trees (tree_at arena.now.items) exprs.now)) (input.now ∷ []) s) }
+    ensures refused { IfErr result (λ e. (F : Functions) → IsNodeError F at (hstack_step (named_trees (tree_at arena.now.items) exprs.now)) (input.now ∷ []) e) }
+    ensures steps { steps.new ≤ steps.old + all_sizes (exprs_of (named_trees (tree_at arena.now.items) exprs.now)) }
 {
     kinds_are_exact();
     let mut stacked = Schema::new(alloc);

@@ -40,7 +40,7 @@ impl Model for Valid {
 
     ghost Value = { ValidNodes };
 
-    ghost view = { λ v. record { root = v.root; nodes = v.ir; schemas = v.schemas } };
+    ghost view = { λ v. record { root = v.root; nodes = v.ir.items; schemas = v.schemas } };
 }
 
 impl Valid {
@@ -53,7 +53,7 @@ impl Valid {
 
     /// The nodes.
     pub fn ir(&self) -> &Arena<IR>
-        ensures { result.now ≡ self.now.nodes }
+        ensures { result.now.items ≡ self.now.nodes }
     {
         &self.ir
     }
@@ -77,13 +77,13 @@ fn node_schemas<F: Functions, L: Ledger>(
     functions: &F,
     steps: &mut Steps<L>,
 ) -> PolarsResult<Schemas>
-    requires survey { IsSurvey (plan_of root ir.now exprs.now) order.now }
-    requires flaws { (n : ℕ) (w : Why) → Reached (plan_of root ir.now exprs.now) n → ¬ Flaw (plan_of root ir.now exprs.now) n w }
-    requires caches { HaveOneInput ir.now order.now }
-    ensures valid { OnOk result (IsValid (record { count = F.counted functions.now; streams = F.streams; answer = F.answer; declared = F.declared }) (plan_of root ir.now exprs.now)) }
-    ensures schemas { IfOk result (λ s. HaveSchemas (record { count = F.counted functions.now; streams = F.streams; answer = F.answer; declared = F.declared }) (plan_of root ir.now exprs.now) s) }
-    ensures typed { OnOk result (HasSchemas (record { count = F.counted functions.now; streams = F.streams; answer = F.answer; declared = F.declared }) (plan_of root ir.now exprs.now)) }
-    ensures refused { IfErr result (λ e. IsPlanError (record { count = F.counted functions.now; streams = F.streams; answer = F.answer; declared = F.declared }) (plan_of root ir.now exprs.now) e) }
+    requires survey { IsSurvey (plan_of root ir.now.items exprs.now.items) order.now }
+    requires flaws { (n : ℕ) (w : Why) → Reached (plan_of root ir.now.items exprs.now.items) n → ¬ Flaw (plan_of root ir.now.items exprs.now.items) n w }
+    requires caches { HaveOneInput ir.now.items order.now }
+    ensures valid { OnOk result (IsValid (record { count = F.counted functions.now; streams = F.streams; answer = F.answer; declared = F.declared }) (plan_of root ir.now.items exprs.now.items)) }
+    ensures schemas { IfOk result (λ s. HaveSchemas (record { count = F.counted functions.now; streams = F.streams; answer = F.answer; declared = F.declared }) (plan_of root ir.now.items exprs.now.items) s) }
+    ensures typed { OnOk result (HasSchemas (record { count = F.counted functions.now; streams = F.streams; answer = F.answer; declared = F.declared }) (plan_of root ir.now.items exprs.now.items)) }
+    ensures refused { IfErr result (λ e. IsPlanError (record { count = F.counted functions.now; streams = F.streams; answer = F.answer; declared = F.declared }) (plan_of root ir.now.items exprs.now.items) e) }
     ensures steps { steps.new ≤ steps.old + 2 * 65536 }
 {
     let mut schemas = Schemas::new(alloc, ir.len())?;
@@ -119,10 +119,10 @@ pub fn validate<F: Functions, L: Ledger>(
     steps: &mut Steps<L>,
 ) -> PolarsResult<Valid>
     ensures root { IfOk result (λ v. v.root ≡ root) }
-    ensures nodes { IfOk result (λ v. v.nodes ≡ ir) }
-    ensures valid { IfOk result (λ v. IsValidWith (record { count = F.counted functions.now; streams = F.streams; answer = F.answer; declared = F.declared }) v exprs.now) }
-    ensures refused { IfErr result (λ e. IsPlanError (record { count = F.counted functions.now; streams = F.streams; answer = F.answer; declared = F.declared }) (plan_of root ir exprs.now) e) }
-    ensures steps { steps.new ≤ steps.old + 4 * (length ir + length exprs.now + all_names ir exprs.now) + 8 * 65536 }
+    ensures nodes { IfOk result (λ v. v.nodes ≡ ir.items) }
+    ensures valid { IfOk result (λ v. IsValidWith (record { count = F.counted functions.now; streams = F.streams; answer = F.answer; declared = F.declared }) v exprs.now.items) }
+    ensures refused { IfErr result (λ e. IsPlanError (record { count = F.counted functions.now; streams = F.streams; answer = F.answer; declared = F.declared }) (plan_of root ir.items exprs.now.items) e) }
+    ensures steps { steps.new ≤ steps.old + 4 * (length ir.items + length exprs.now.items + all_names ir.items exprs.now.items) + 8 * 65536 }
 {
     let survey = survey_plan(alloc, root, &ir, exprs, steps)?;
     check_caches(alloc, survey.order(), &ir, steps)?;

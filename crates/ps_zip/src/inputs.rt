@@ -162,8 +162,8 @@ pub fn push_exprs(
     arena: &Arena<AExpr>,
     df: &DataFrame,
 ) -> Result<(), AllocError>
-    requires { AreTypedOver df.now.schema (key_trees (tree_at arena.now) exprs.now) }
-    ensures { OnOk result (AddsExprs df.now (key_trees (tree_at arena.now) exprs.now) inputs.old.items inputs.new.items) }
+    requires { AreTypedOver df.now.schema (key_trees (tree_at arena.now.items) exprs.now) }
+    ensures { OnOk result (AddsExprs df.now (key_trees (tree_at arena.now.items) exprs.now) inputs.old.items inputs.new.items) }
 {
     for expr in exprs {
         inputs.push(expr_input(alloc, expr.node, arena, df)?)?;
@@ -180,9 +180,9 @@ pub fn expr_input(
     arena: &Arena<AExpr>,
     df: &DataFrame,
 ) -> Result<Input, AllocError>
-    requires expression { IsExpression arena.now expr }
-    requires kind { IsSome (kind_over df.now.schema (tree_at arena.now expr)) }
-    ensures { IfOk result (IsExprInput df.now (tree_at arena.now expr)) }
+    requires expression { IsExpression arena.now.items expr }
+    requires kind { IsSome (kind_over df.now.schema (tree_at arena.now.items expr)) }
+    ensures { IfOk result (IsExprInput df.now (tree_at arena.now.items expr)) }
 {
     match entry(expr, arena) {
         AExpr::Column(name) => named_input(alloc, name, df),
@@ -206,9 +206,9 @@ fn computed_input(
     arena: &Arena<AExpr>,
     df: &DataFrame,
 ) -> Result<Input, AllocError>
-    requires expression { IsExpression arena.now expr }
-    requires kind { IsSome (kind_over df.now.schema (tree_at arena.now expr)) }
-    ensures { IfOk result (IsExprInput df.now (tree_at arena.now expr)) }
+    requires expression { IsExpression arena.now.items expr }
+    requires kind { IsSome (kind_over df.now.schema (tree_at arena.now.items expr)) }
+    ensures { IfOk result (IsExprInput df.now (tree_at arena.now.items expr)) }
 {
     table_fits(df);
     Ok(Input::Computed(part_of(alloc, expr, arena, df)?))

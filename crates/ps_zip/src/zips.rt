@@ -43,9 +43,9 @@ pub fn zip_keyed(
     arena: &Arena<AExpr>,
     df: &DataFrame,
 ) -> PolarsResult<Zip>
-    requires { AreTypedOver df.now.schema (key_trees (tree_at arena.now) exprs.now) }
-    ensures rows { IfOk result (λ zip. KeepsZip (keyed at.0 (key_trees (tree_at arena.now) exprs.now) (whole df.now)) (keyed_kinds df.now.schema (key_trees (tree_at arena.now) exprs.now)) zip.columns.items zip.height) }
-    ensures error { IfErr result (IsZipError at.0 (key_trees (tree_at arena.now) exprs.now) (whole df.now) (keyed at.0 (key_trees (tree_at arena.now) exprs.now) (whole df.now))) }
+    requires { AreTypedOver df.now.schema (key_trees (tree_at arena.now.items) exprs.now) }
+    ensures rows { IfOk result (λ zip. KeepsZip (keyed at.0 (key_trees (tree_at arena.now.items) exprs.now) (whole df.now)) (keyed_kinds df.now.schema (key_trees (tree_at arena.now.items) exprs.now)) zip.columns.items zip.height) }
+    ensures error { IfErr result (IsZipError at.0 (key_trees (tree_at arena.now.items) exprs.now) (whole df.now) (keyed at.0 (key_trees (tree_at arena.now.items) exprs.now) (whole df.now))) }
 {
     let mut inputs = table_inputs(alloc, df)?;
     push_exprs(alloc, &mut inputs, exprs, arena, df)?;
@@ -62,9 +62,9 @@ pub fn zip_exprs(
     arena: &Arena<AExpr>,
     df: &DataFrame,
 ) -> PolarsResult<Zip>
-    requires { AreTypedOver df.now.schema (key_trees (tree_at arena.now) exprs.now) }
-    ensures rows { IfOk result (λ zip. KeepsZip (zipped false at.0 (columns_at at.0 (key_trees (tree_at arena.now) exprs.now) (whole df.now))) (expr_kinds df.now.schema (key_trees (tree_at arena.now) exprs.now)) zip.columns.items zip.height) }
-    ensures error { IfErr result (IsZipError at.0 (key_trees (tree_at arena.now) exprs.now) (whole df.now) (zipped false at.0 (columns_at at.0 (key_trees (tree_at arena.now) exprs.now) (whole df.now)))) }
+    requires { AreTypedOver df.now.schema (key_trees (tree_at arena.now.items) exprs.now) }
+    ensures rows { IfOk result (λ zip. KeepsZip (zipped false at.0 (columns_at at.0 (key_trees (tree_at arena.now.items) exprs.now) (whole df.now))) (expr_kinds df.now.schema (key_trees (tree_at arena.now.items) exprs.now)) zip.columns.items zip.height) }
+    ensures error { IfErr result (IsZipError at.0 (key_trees (tree_at arena.now.items) exprs.now) (whole df.now) (zipped false at.0 (columns_at at.0 (key_trees (tree_at arena.now.items) exprs.now) (whole df.now)))) }
 {
     let mut inputs = Vec::with_capacity(alloc, exprs.len())?;
     push_exprs(alloc, &mut inputs, exprs, arena, df)?;

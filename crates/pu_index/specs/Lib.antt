@@ -4,6 +4,7 @@ pub mod ChunkSteps
 pub mod ChunksLeft
 pub mod Compared
 pub mod Counted
+pub mod Entries
 pub mod FixedRing
 pub mod Idx
 pub mod InMemory

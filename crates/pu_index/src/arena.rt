@@ -1,5 +1,5 @@
 // Arenas: entries that are named by their numbers.
-ghost use Rattle.std.specs.Prelude.{◌≡◌, ◌≢◌, ◌↔◌, ◌+◌, ◌<◌, ◌++◌, ◌∷◌, [], length, slice_get, slice_set, swap, IfOk, IsTrue, OnErr, Ok, Err, MatchOption, MatchResult};
+ghost use Rattle.std.specs.Prelude.{◌≡◌, ◌≢◌, ◌↔◌, ◌+◌, ◌<◌, ◌%◌, ◌^◌, ◌++◌, ◌∷◌, [], length, slice_get, slice_set, swap, IfOk, IsTrue, OnErr, Ok, Err, MatchOption, MatchResult};
 ghost use Rattle.std.specs.Borrow.{sem, Array, LendsBoth};
 ghost use Rattle.pu_order.specs.declared.error.PolarsUtilsError.TheVariants as refusal;
 
@@ -22,7 +22,8 @@ impl Default for Node {
     }
 }
 
-/// A list of entries, each named by its place.
+/// A list of entries, each named by its place. Its version is the number of times that it was cleared, counted around
+/// at 2^32.
 #[derive(Drop)]
 pub struct Arena<T> {
     version: u32,
@@ -30,11 +31,11 @@ pub struct Arena<T> {
 }
 
 impl<T> Model for Arena<T> {
-    ghost use Rattle.std.specs.Prelude.{List};
+    ghost use Rattle.pu_index.specs.Entries.{Entries};
 
-    ghost Value = { List T };
+    ghost Value = { Entries T };
 
-    ghost view = { λ a. a.items.items };
+    ghost view = { λ a. record { items = a.items.items; version = a.version } };
 }
 
 impl<T> Arena<T> {
@@ -42,7 +43,7 @@ impl<T> Arena<T> {
 
     /// An arena without entries, which takes no memory.
     pub fn new(alloc: Global) -> Arena<T>
-        ensures { result ≡ [] }
+        ensures { result ≡ record { items = []; version = 0 } }
     {
         Arena {
             version: 0,
@@ -54,7 +55,7 @@ impl<T> Arena<T> {
     ///
     /// Fails only for want of memory.
     pub fn with_capacity(alloc: Global, cap: usize) -> Result<Arena<T>>
-        ensures empty { IfOk result (λ a. a ≡ []) }
+        ensures empty { IfOk result (λ a. a ≡ record { items = []; version = 0 }) }
         ensures memory { OnErr result (result ≡ Err refusal.OutOfMemory) }
     {
         let items = Vec::with_capacity(alloc, cap)?;
@@ -62,27 +63,29 @@ impl<T> Arena<T> {
     }
 
     /// How often the arena was cleared, counted around at 2^32.
-    pub fn version(&self) -> u32 {
+    pub fn version(&self) -> u32
+        ensures { result ≡ self.now.version }
+    {
         self.version
     }
 
     /// How many entries there are.
     pub fn len(&self) -> usize
-        ensures { result ≡ length self.now }
+        ensures { result ≡ length self.now.items }
     {
         self.items.len()
     }
 
     /// Whether there is no entry.
     pub fn is_empty(&self) -> bool
-        ensures { IsTrue result ↔ (self.now ≡ []) }
+        ensures { IsTrue result ↔ (self.now.items ≡ []) }
     {
         self.items.is_empty()
     }
 
     /// The number of the entry that was added last.
     pub fn last_node(&mut self) -> Option<Node>
-        ensures last { MatchOption result (self.old ≡ []) (λ n. n.0 + 1 ≡ length self.old) }
+        ensures last { MatchOption result (self.old.items ≡ []) (λ n. n.0 + 1 ≡ length self.old.items) }
         ensures unchanged { self.new ≡ self.old }
     {
         self.items.len().checked_sub(1).map(Node)
@@ -90,25 +93,25 @@ impl<T> Arena<T> {
 
     /// The entry of a number.
     pub fn get(&self, n: Node) -> &T
-        requires { n.0 < length self.now }
-        ensures { slice_get self.now n.0 ≡ Some result.now }
+        requires { n.0 < length self.now.items }
+        ensures { slice_get self.now.items n.0 ≡ Some result.now }
     {
         &self.items[n.0]
     }
 
     /// The entry of a number, which nothing tests when it runs.
     pub fn get_unchecked(&self, n: Node) -> &T
-        requires { n.0 < length self.now }
-        ensures { slice_get self.now n.0 ≡ Some result.now }
+        requires { n.0 < length self.now.items }
+        ensures { slice_get self.now.items n.0 ≡ Some result.now }
     {
         self.get(n)
     }
 
     /// The entry of a number, to write to.
     pub fn get_mut(&mut self, n: Node) -> &mut T
-        requires { n.0 < length self.old }
+        requires { n.0 < length self.old.items }
         ensures* writes_back { sem 𝓛 (lends_entry T.row self.entry n.0 result) }
-        ensures value { slice_get self.old n.0 ≡ Some result.now }
+        ensures value { slice_get self.old.items n.0 ≡ Some result.now }
     {
         &mut self.items[n.0]
     }
@@ -118,12 +121,12 @@ impl<T> Arena<T> {
     /// A caller whose contract says what the arena ends as takes them from the entries, by
     /// `pair_of(arena.entries_mut(), a, b)`: what is lent twice is followed into a slice alone.
     pub fn get_pair_mut(&mut self, a: Node, b: Node) -> (&mut T, &mut T)
-        requires first { a.0 < length self.old }
-        requires second { b.0 < length self.old }
+        requires first { a.0 < length self.old.items }
+        requires second { b.0 < length self.old.items }
         requires different { a.0 ≢ b.0 }
         ensures* writes_back { sem 𝓛 (lends_pair T.row self.entry a.0 b.0 result) }
-        ensures first_value { slice_get self.old a.0 ≡ Some result.0.now }
-        ensures second_value { slice_get self.old b.0 ≡ Some result.1.now }
+        ensures first_value { slice_get self.old.items a.0 ≡ Some result.0.now }
+        ensures second_value { slice_get self.old.items b.0 ≡ Some result.1.now }
     {
         pair_of(self.entries_mut(), a, b)
     }
@@ -131,7 +134,7 @@ impl<T> Arena<T> {
     /// The entries in the order of their numbers, to write to.
     pub fn entries_mut(&mut self) -> &mut [T]
         ensures* writes_back { sem 𝓛 (lends_entries T.row self.entry result) }
-        ensures value { result.now ≡ self.old }
+        ensures value { result.now ≡ self.old.items }
     {
         self.items.as_mut_slice()
     }
@@ -142,8 +145,9 @@ impl<T> Arena<T> {
     pub fn add(&mut self, val: T) -> Result<Node>
     where
         T: Drop,
-        ensures number { IfOk result (λ n. n.0 ≡ length self.old) }
-        ensures added { IfOk result (λ n. self.new ≡ self.old ++ val ∷ []) }
+        ensures number { IfOk result (λ n. n.0 ≡ length self.old.items) }
+        ensures added { IfOk result (λ n. self.new.items ≡ self.old.items ++ val ∷ []) }
+        ensures version { self.new.version ≡ self.old.version }
         ensures unchanged { OnErr result (self.new ≡ self.old) }
         ensures memory { OnErr result (result ≡ Err refusal.OutOfMemory) }
     {
@@ -154,25 +158,28 @@ impl<T> Arena<T> {
 
     /// Takes the last entry off.
     pub fn pop(&mut self) -> Option<T>
-        ensures { MatchOption result ((self.old ≡ []) × (self.new ≡ [])) (λ val. self.old ≡ self.new ++ val ∷ []) }
+        ensures last { MatchOption result ((self.old.items ≡ []) × (self.new.items ≡ [])) (λ val. self.old.items ≡ self.new.items ++ val ∷ []) }
+        ensures version { self.new.version ≡ self.old.version }
     {
         self.items.pop()
     }
 
     /// Lets two entries change places.
     pub fn swap(&mut self, a: Node, b: Node)
-        requires first { a.0 < length self.old }
-        requires second { b.0 < length self.old }
-        ensures { self.new ≡ swap self.old a.0 b.0 }
+        requires first { a.0 < length self.old.items }
+        requires second { b.0 < length self.old.items }
+        ensures swapped { self.new.items ≡ swap self.old.items a.0 b.0 }
+        ensures version { self.new.version ≡ self.old.version }
     {
         self.items.swap(a.0, b.0);
     }
 
     /// Puts a value in the place of an entry, which is answered.
     pub fn replace(&mut self, n: Node, val: T) -> T
-        requires { n.0 < length self.old }
-        ensures value { slice_get self.old n.0 ≡ Some result }
-        ensures written { self.new ≡ slice_set self.old n.0 val }
+        requires { n.0 < length self.old.items }
+        ensures value { slice_get self.old.items n.0 ≡ Some result }
+        ensures written { self.new.items ≡ slice_set self.old.items n.0 val }
+        ensures version { self.new.version ≡ self.old.version }
     {
         mem::replace(&mut self.items[n.0], val)
     }
@@ -181,7 +188,8 @@ impl<T> Arena<T> {
     pub fn clear(&mut self)
     where
         T: Drop,
-        ensures { self.new ≡ [] }
+        ensures empty { self.new.items ≡ [] }
+        ensures version { self.new.version ≡ (self.old.version + 1) % 2 ^ 32 }
     {
         self.items.clear();
         self.version = self.version.wrapping_add(1);
@@ -191,9 +199,10 @@ impl<T> Arena<T> {
 impl<T: Default> Arena<T> {
     /// Takes an entry, and leaves the default in its place.
     pub fn take(&mut self, n: Node) -> T
-        requires { n.0 < length self.old }
-        ensures value { slice_get self.old n.0 ≡ Some result }
-        ensures left { (w : T) × T.is_default w × (self.new ≡ slice_set self.old n.0 w) }
+        requires { n.0 < length self.old.items }
+        ensures value { slice_get self.old.items n.0 ≡ Some result }
+        ensures left { (w : T) × T.is_default w × (self.new.items ≡ slice_set self.old.items n.0 w) }
+        ensures version { self.new.version ≡ self.old.version }
     {
         self.replace(n, T::default())
     }
@@ -202,9 +211,10 @@ impl<T: Default> Arena<T> {
     pub fn replace_with<F: FnOnce(T) -> T>(&mut self, n: Node, f: F)
     where
         T: Drop,
-        requires place { n.0 < length self.old }
+        requires place { n.0 < length self.old.items }
         requires callable { F.IsAlwaysCallable f }
-        ensures { (x y : T) × (slice_get self.old n.0 ≡ Some x) × F.post f x y × (self.new ≡ slice_set self.old n.0 y) }
+        ensures written { (x y : T) × (slice_get self.old.items n.0 ≡ Some x) × F.post f x y × (self.new.items ≡ slice_set self.old.items n.0 y) }
+        ensures version { self.new.version ≡ self.old.version }
     {
         let val = self.take(n);
         self.replace(n, f(val));
@@ -216,9 +226,10 @@ impl<T: Default> Arena<T> {
     pub fn try_replace_with<F: FnMut(T) -> Result<T>>(&mut self, n: Node, mut f: F) -> Result<()>
     where
         T: Drop,
-        requires place { n.0 < length self.old }
+        requires place { n.0 < length self.old.items }
         requires callable { F.IsAlwaysCallable f }
-        ensures { (x : T) × (slice_get self.old n.0 ≡ Some x) × MatchResult result (λ _. (y : T) × F.post f x (Ok y) × (self.new ≡ slice_set self.old n.0 y)) (λ e. (w : T) × T.is_default w × F.post f x (Err e) × (self.new ≡ slice_set self.old n.0 w)) }
+        ensures written { (x : T) × (slice_get self.old.items n.0 ≡ Some x) × MatchResult result (λ _. (y : T) × F.post f x (Ok y) × (self.new.items ≡ slice_set self.old.items n.0 y)) (λ e. (w : T) × T.is_default w × F.post f x (Err e) × (self.new.items ≡ slice_set self.old.items n.0 w)) }
+        ensures version { self.new.version ≡ self.old.version }
     {
         let val = self.take(n);
         match f(val) {
@@ -236,10 +247,11 @@ impl<T: Clone> Arena<T> {
     ///
     /// Fails only for want of memory; the arena is then as before.
     pub fn duplicate(&mut self, n: Node) -> Result<Node>
-        requires place { n.0 < length self.old }
+        requires place { n.0 < length self.old.items }
         requires clones { (x y : T) → T.is_clone x y → y ≡ x }
-        ensures number { IfOk result (λ m. m.0 ≡ length self.old) }
-        ensures added { IfOk result (λ m. (x : T) × (slice_get self.old n.0 ≡ Some x) × (self.new ≡ self.old ++ x ∷ [])) }
+        ensures number { IfOk result (λ m. m.0 ≡ length self.old.items) }
+        ensures added { IfOk result (λ m. (x : T) × (slice_get self.old.items n.0 ≡ Some x) × (self.new.items ≡ self.old.items ++ x ∷ [])) }
+        ensures version { self.new.version ≡ self.old.version }
         ensures unchanged { OnErr result (self.new ≡ self.old) }
         ensures memory { OnErr result (result ≡ Err refusal.OutOfMemory) }
     {

@@ -91,10 +91,10 @@ fn keeps_entries(rt: HostRuntime) -> Result<(), Fail> {
 
 // By way of the entries it is known what the arena ends as.
 fn write_pair(arena: &mut Arena<u32>, a: Node, b: Node)
-    requires first { a.0 < length arena.old }
-    requires second { b.0 < length arena.old }
+    requires first { a.0 < length arena.old.items }
+    requires second { b.0 < length arena.old.items }
     requires different { a.0 ≢ b.0 }
-    ensures { arena.new ≡ slice_set (slice_set arena.old a.0 3) b.0 4 }
+    ensures { arena.new.items ≡ slice_set (slice_set arena.old.items a.0 3) b.0 4 }
 {
     let entries = arena.entries_mut();
     let (x, y) = pair_of(entries, a, b);

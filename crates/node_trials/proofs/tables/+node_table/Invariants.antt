@@ -11,4 +11,4 @@ decreases-node_table g l = l.depth
 
 abbrev pub invariant-loop-input : goal.invariant-loop-input
 invariant-loop-input g l =
-    frame_schemas l.tables.items ≡ schemas_at (plan_schemas (functions_of (g.F.Functions.counted l.functions) g.F.Functions.streams g.F.Functions.answer g.F.Functions.declared) (plan_with l.valid l.exprs)) (take l.input-index l.input-items)
+    frame_schemas l.tables.items ≡ schemas_at (plan_schemas (functions_of (g.F.Functions.counted l.functions) g.F.Functions.streams g.F.Functions.answer g.F.Functions.declared) (plan_with l.valid l.exprs.items)) (take l.input-index l.input-items)

@@ -5,4 +5,4 @@ use Rattle.ps_validate.specs.Valid.{plan_with}
 use Rattle.node_trials.proofs.trial.root_table.Goals as goal
 
 pub node_table-requires-clause-reached : goal.node_table-requires-clause-reached
-node_table-requires-clause-reached g c κs = subst (λ (n : Node). Reached (plan_with c.in_ok-valid.valid c.args.exprs.now) n.0) (sym c.root.ensures) here
+node_table-requires-clause-reached g c κs = subst (λ (n : Node). Reached (plan_with c.in_ok-valid.valid c.args.exprs.now.items) n.0) (sym c.root.ensures) here

@@ -7,4 +7,4 @@ use Rattle.ps_eval.proofs.evaluate.typed_entry.Goals as goal
 
 pub returns-clause-kinds : goal.returns-clause-kinds
 returns-clause-kinds c =
-    takes-kinds c.args.df.now.schema (tree_at c.args.arena.now) c.entry.result.now (subst (λ (t : Tree). IsSome (kind_over c.args.df.now.schema t)) c.entry.ensures.tree c.requires.kind)
+    takes-kinds c.args.df.now.schema (tree_at c.args.arena.now.items) c.entry.result.now (subst (λ (t : Tree). IsSome (kind_over c.args.df.now.schema t)) c.entry.ensures.tree c.requires.kind)

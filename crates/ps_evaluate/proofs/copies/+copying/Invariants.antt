@@ -4,22 +4,22 @@ use Rattle.ps_evaluate.specs.Copies.{KeepsTrees}
 use Rattle.ps_evaluate.proofs.copies.+copying.Given as goal
 
 abbrev pub decreases-copy_expr : goal.decreases-copy_expr
-decreases-copy_expr l = 3 * tree_size (tree_at l.from.now l.expr)
+decreases-copy_expr l = 3 * tree_size (tree_at l.from.now.items l.expr)
 
 abbrev pub decreases-copy_two : goal.decreases-copy_two
-decreases-copy_two l = 3 * (tree_size (tree_at l.from.now l.first) + tree_size (tree_at l.from.now l.second)) + 1
+decreases-copy_two l = 3 * (tree_size (tree_at l.from.now.items l.first) + tree_size (tree_at l.from.now.items l.second)) + 1
 
 abbrev pub decreases-copy_three : goal.decreases-copy_three
-decreases-copy_three l = 3 * (tree_size (tree_at l.from.now l.first) + (tree_size (tree_at l.from.now l.second) + tree_size (tree_at l.from.now l.third))) + 2
+decreases-copy_three l = 3 * (tree_size (tree_at l.from.now.items l.first) + (tree_size (tree_at l.from.now.items l.second) + tree_size (tree_at l.from.now.items l.third))) + 2
 
 abbrev pub decreases-copy_keyed : goal.decreases-copy_keyed
-decreases-copy_keyed l = 3 * (tree_size (tree_at l.from.now l.expr) + trees_size (trees_of (tree_at l.from.now) l.by.now)) + 2
+decreases-copy_keyed l = 3 * (tree_size (tree_at l.from.now.items l.expr) + trees_size (trees_of (tree_at l.from.now.items) l.by.now)) + 2
 
 abbrev pub decreases-copy_all : goal.decreases-copy_all
-decreases-copy_all l = 3 * trees_size (trees_of (tree_at l.from.now) l.exprs.now) + 1
+decreases-copy_all l = 3 * trees_size (trees_of (tree_at l.from.now.items) l.exprs.now) + 1
 
 abbrev pub decreases-copy_aggregate : goal.decreases-copy_aggregate
-decreases-copy_aggregate l = 3 * tree_size (aggregate_tree (tree_at l.from.now) l.aggregate.now) - 1
+decreases-copy_aggregate l = 3 * tree_size (aggregate_tree (tree_at l.from.now.items) l.aggregate.now) - 1
 
 abbrev pub invariant-copy_all-loop-expr : goal.invariant-copy_all-loop-expr
 invariant-copy_all-loop-expr l =

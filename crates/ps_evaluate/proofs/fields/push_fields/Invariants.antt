@@ -7,4 +7,4 @@ use Rattle.ps_evaluate.proofs.fields.push_fields.Given as goal
 
 abbrev pub invariant-loop-expr : goal.invariant-loop-expr
 invariant-loop-expr l =
-    (before : List Named) → fields_of before l.input ≡ Some l.initial.schema → fields_of (before ++ named_trees (tree_at l.arena) (take l.expr-index l.exprs)) l.input ≡ Some l.schema
+    (before : List Named) → fields_of before l.input ≡ Some l.initial.schema → fields_of (before ++ named_trees (tree_at l.arena.items) (take l.expr-index l.exprs)) l.input ≡ Some l.schema

@@ -7,6 +7,6 @@ use Rattle.ps_evaluate.proofs.maps.copy_named.Given as goal
 abbrev pub invariant-loop-expr : goal.invariant-loop-expr
 invariant-loop-expr l =
     record {
-      named : named_trees (tree_at l.into) l.copies.items ≡ named_trees (tree_at l.from) (take l.expr-index l.exprs);
-      kept : KeepsTrees l.initial.into l.into;
+      named : named_trees (tree_at l.into.items) l.copies.items ≡ named_trees (tree_at l.from.items) (take l.expr-index l.exprs);
+      kept : KeepsTrees l.initial.into l.into.items;
     }

@@ -5,13 +5,13 @@ use Rattle.ps_evaluate.proofs.RowSteps.{select-fields, select-whole}
 use Rattle.ps_evaluate.proofs.rows.selected.Goals as goal
 
 pub select-requires-clause-expressions : goal.select-requires-clause-expressions
-select-requires-clause-expressions c = select-whole (tree_at c.args.arena.now) c.args.exprs.now _ _ c.args.schema.now c.only.ensures c.requires.ready
+select-requires-clause-expressions c = select-whole (tree_at c.args.arena.now.items) c.args.exprs.now _ _ c.args.schema.now c.only.ensures c.requires.ready
 
 pub select-requires-clause-fields : goal.select-requires-clause-fields
-select-requires-clause-fields c = select-fields (tree_at c.args.arena.now) c.args.exprs.now _ _ c.args.schema.now c.only.ensures c.requires.ready
+select-requires-clause-fields c = select-fields (tree_at c.args.arena.now.items) c.args.exprs.now _ _ c.args.schema.now c.only.ensures c.requires.ready
 
 pub returns-clause-table : goal.returns-clause-table
-returns-clause-table c = gives-over c.args.at.0 (select (named_trees (tree_at c.args.arena.now) c.args.exprs.now)) _ _ c.select.result c.only.ensures c.select.ensures.table
+returns-clause-table c = gives-over c.args.at.0 (select (named_trees (tree_at c.args.arena.now.items) c.args.exprs.now)) _ _ c.select.result c.only.ensures c.select.ensures.table
 
 pub returns-clause-fault : goal.returns-clause-fault
-returns-clause-fault c = faults-over c.args.at.0 (select (named_trees (tree_at c.args.arena.now) c.args.exprs.now)) _ _ c.select.result c.only.ensures c.select.ensures.fault
+returns-clause-fault c = faults-over c.args.at.0 (select (named_trees (tree_at c.args.arena.now.items) c.args.exprs.now)) _ _ c.select.result c.only.ensures c.select.ensures.fault

@@ -5,10 +5,10 @@ use Rattle.ps_evaluate.proofs.RowSteps.{sort-typed}
 use Rattle.ps_evaluate.proofs.rows.sorted.Goals as goal
 
 pub sort-requires : goal.sort-requires
-sort-requires c = sort-typed (tree_at c.args.arena.now) c.args.by.now _ _ c.requires.ready.0 c.only.ensures c.args.slice c.args.options.now c.requires.ready.1
+sort-requires c = sort-typed (tree_at c.args.arena.now.items) c.args.by.now _ _ c.requires.ready.0 c.only.ensures c.args.slice c.args.options.now c.requires.ready.1
 
 pub returns-clause-table : goal.returns-clause-table
-returns-clause-table c = gives-over c.args.at.0 (sort_step (tree_at c.args.arena.now) c.args.by.now c.args.slice c.args.options.now) _ _ c.sort.result c.only.ensures c.sort.ensures.table
+returns-clause-table c = gives-over c.args.at.0 (sort_step (tree_at c.args.arena.now.items) c.args.by.now c.args.slice c.args.options.now) _ _ c.sort.result c.only.ensures c.sort.ensures.table
 
 pub returns-clause-fault : goal.returns-clause-fault
-returns-clause-fault c = faults-over c.args.at.0 (sort_step (tree_at c.args.arena.now) c.args.by.now c.args.slice c.args.options.now) _ _ c.sort.result c.only.ensures c.sort.ensures.fault
+returns-clause-fault c = faults-over c.args.at.0 (sort_step (tree_at c.args.arena.now.items) c.args.by.now c.args.slice c.args.options.now) _ _ c.sort.result c.only.ensures c.sort.ensures.fault

@@ -9,15 +9,15 @@ use Rattle.ps_exec.specs.Readers.{IsWantedUntil}
 use Rattle.ps_exec.proofs.query.run_in_order.Goals as goal
 
 pub last_readers-requires-clause-nodes : goal.last_readers-requires-clause-nodes
-last_readers-requires-clause-nodes g c = subst (λ ns. All (λ n. n < length ns) c.args.order.now) (sym c.ir.ensures) (nodes-within (plan_with c.args.valid.now c.args.exprs.now) c.args.order.now c.requires.survey)
+last_readers-requires-clause-nodes g c = subst (λ ns. All (λ n. n < length ns) c.args.order.now) (sym c.ir.ensures) (nodes-within (plan_with c.args.valid.now c.args.exprs.now.items) c.args.order.now c.requires.survey)
 
 pub last_readers-requires-clause-inputs : goal.last_readers-requires-clause-inputs
 last_readers-requires-clause-inputs g c =
-    subst (λ ns. All (λ n. All (λ m. m < length ns) (inputs_in ns n)) c.args.order.now) (sym c.ir.ensures) (inputs-within (plan_with c.args.valid.now c.args.exprs.now) c.args.order.now c.requires.survey)
+    subst (λ ns. All (λ n. All (λ m. m < length ns) (inputs_in ns n)) c.args.order.now) (sym c.ir.ensures) (inputs-within (plan_with c.args.valid.now c.args.exprs.now.items) c.args.order.now c.requires.survey)
 
 pub last_readers-requires-clause-root : goal.last_readers-requires-clause-root
 last_readers-requires-clause-root g c =
-    subst (λ (r : Node). r.0 < length c.ir.result.now) (sym c.root.ensures) (subst (λ ns. c.args.valid.now.root.0 < length ns) (sym c.ir.ensures) (root-within (plan_with c.args.valid.now c.args.exprs.now) c.args.order.now c.requires.survey))
+    subst (λ (r : Node). r.0 < length c.ir.result.now) (sym c.root.ensures) (subst (λ ns. c.args.valid.now.root.0 < length ns) (sym c.ir.ensures) (root-within (plan_with c.args.valid.now c.args.exprs.now.items) c.args.order.now c.requires.survey))
 
 pub walk-requires-clause-size : goal.walk-requires-clause-size
 walk-requires-clause-size g c = λ κs lives. ap length c.as_slice.ensures.value ∙ c.in-Ok.ensures.size ∙ ap length c.ir.ensures
@@ -32,7 +32,7 @@ walk-requires-clause-root g c =
     (subst (λ (r : Node). length c.args.order.now ≤ get_or c.in-Ok.until.items r.0 0) c.root.ensures c.in-Ok.ensures.root)
 
 pub returns-in-Ok-clause-table : goal.returns-in-Ok-clause-table
-returns-in-Ok-clause-table g c = run-answer (functions_of (g.F.Functions.counted c.args.functions.now) g.F.Functions.streams g.F.Functions.answer g.F.Functions.declared) (plan_with c.args.valid.now c.args.exprs.now) c.walk.result c.requires.valid.valid c.walk.ensures.table
+returns-in-Ok-clause-table g c = run-answer (functions_of (g.F.Functions.counted c.args.functions.now) g.F.Functions.streams g.F.Functions.answer g.F.Functions.declared) (plan_with c.args.valid.now c.args.exprs.now.items) c.walk.result c.requires.valid.valid c.walk.ensures.table
 
 pub returns-in-Ok-clause-error : goal.returns-in-Ok-clause-error
-returns-in-Ok-clause-error g c = run-errors (functions_of (g.F.Functions.counted c.args.functions.now) g.F.Functions.streams g.F.Functions.answer g.F.Functions.declared) (plan_with c.args.valid.now c.args.exprs.now) c.walk.result c.requires.valid.valid c.walk.ensures.fault
+returns-in-Ok-clause-error g c = run-errors (functions_of (g.F.Functions.counted c.args.functions.now) g.F.Functions.streams g.F.Functions.answer g.F.Functions.declared) (plan_with c.args.valid.now c.args.exprs.now.items) c.walk.result c.requires.valid.valid c.walk.ensures.fault

@@ -9,13 +9,13 @@ use Rattle.ps_exec.proofs.query.table_of.Goals as goal
 pub returns-in-Ok-clause-table : goal.returns-in-Ok-clause-table
 returns-in-Ok-clause-table g c =
     subst (λ plan. IfOk c.run.result (IsQueryAnswer (functions_of (g.F.Functions.counted c.args.functions.now) g.F.Functions.streams g.F.Functions.answer g.F.Functions.declared) plan))
-    (same-plan c.in-Ok.valid c.args.root c.args.ir c.args.exprs.now c.in-Ok.ensures.root c.in-Ok.ensures.nodes) c.run.ensures.table
+    (same-plan c.in-Ok.valid c.args.root c.args.ir.items c.args.exprs.now.items c.in-Ok.ensures.root c.in-Ok.ensures.nodes) c.run.ensures.table
 
 pub returns-in-Ok-clause-error : goal.returns-in-Ok-clause-error
 returns-in-Ok-clause-error g c =
     subst (λ plan. IfErr c.run.result (IsQueryError (functions_of (g.F.Functions.counted c.args.functions.now) g.F.Functions.streams g.F.Functions.answer g.F.Functions.declared) plan))
-    (same-plan c.in-Ok.valid c.args.root c.args.ir c.args.exprs.now c.in-Ok.ensures.root c.in-Ok.ensures.nodes) c.run.ensures.error
+    (same-plan c.in-Ok.valid c.args.root c.args.ir.items c.args.exprs.now.items c.in-Ok.ensures.root c.in-Ok.ensures.nodes) c.run.ensures.error
 
 pub returns-clause-error : goal.returns-clause-error
 returns-clause-error g c =
-    refusal-query-error (functions_of (g.F.Functions.counted c.args.functions.now) g.F.Functions.streams g.F.Functions.answer g.F.Functions.declared) (plan_of c.args.root c.args.ir c.args.exprs.now) c.in-Err.error c.in-Err.ensures.refused
+    refusal-query-error (functions_of (g.F.Functions.counted c.args.functions.now) g.F.Functions.streams g.F.Functions.answer g.F.Functions.declared) (plan_of c.args.root c.args.ir.items c.args.exprs.now.items) c.in-Err.error c.in-Err.ensures.refused

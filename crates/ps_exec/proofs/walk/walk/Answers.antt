@@ -20,14 +20,14 @@ use Rattle.ps_exec.proofs.walk.walk.Goals as goal
 
 pub loop-place-init : goal.loop-place-init
 loop-place-init g c =
-    walking-first (functions_of (g.F.Functions.counted c.args.functions.now) g.F.Functions.streams g.F.Functions.answer g.F.Functions.declared) (plan_with c.args.valid.now c.args.exprs.now) c.args.order.now c.args.until.now c.in_ok-tables.tables
+    walking-first (functions_of (g.F.Functions.counted c.args.functions.now) g.F.Functions.streams g.F.Functions.answer g.F.Functions.declared) (plan_with c.args.valid.now c.args.exprs.now.items) c.args.order.now c.args.until.now c.in_ok-tables.tables
     (c.in_ok-tables.ensures.none ∙ ap (λ k. replicate k None) (c.len.ensures ∙ ap length c.ir.ensures))
 
 pub get-requires : goal.get-requires
 get-requires g c =
     let n = get_or c.args.order.now c.loop-place.place 0 in
     subst (λ ns. n < length ns) (sym c.ir-in-loop-place.ensures)
-    (place-within (functions_of (g.F.Functions.counted c.args.functions.now) g.F.Functions.streams g.F.Functions.answer g.F.Functions.declared) (plan_with c.args.valid.now c.args.exprs.now) c.args.order.now c.args.until.now c.requires.survey c.requires.wanted
+    (place-within (functions_of (g.F.Functions.counted c.args.functions.now) g.F.Functions.streams g.F.Functions.answer g.F.Functions.declared) (plan_with c.args.valid.now c.args.exprs.now.items) c.args.order.now c.args.until.now c.requires.survey c.requires.wanted
     c.loop-place.place n (slice_get-get_or c.args.order.now c.loop-place.place 0 c.loop-place-test.true))
 
 pub share_all-requires : goal.share_all-requires
@@ -35,14 +35,14 @@ share_all-requires g c =
     let n = get_or c.args.order.now c.loop-place.place 0 in
     let is = subst (λ ns. slice_get ns n ≡ Some c.get.result.now) c.ir-in-loop-place.ensures c.get.ensures in
     subst (λ ns. AreHeld c.loop-place.tables ns) (sym (c.as_slice.ensures.value ∙ c.in_ok-inputs.ensures.inputs))
-    (node-held (functions_of (g.F.Functions.counted c.args.functions.now) g.F.Functions.streams g.F.Functions.answer g.F.Functions.declared) (plan_with c.args.valid.now c.args.exprs.now) c.args.order.now c.args.until.now c.requires.survey c.requires.wanted
+    (node-held (functions_of (g.F.Functions.counted c.args.functions.now) g.F.Functions.streams g.F.Functions.answer g.F.Functions.declared) (plan_with c.args.valid.now c.args.exprs.now.items) c.args.order.now c.args.until.now c.requires.survey c.requires.wanted
     c.loop-place.place c.loop-place.tables n c.get.result.now (slice_get-get_or c.args.order.now c.loop-place.place 0 c.loop-place-test.true) is c.loop-place.invariant)
 
 pub release-requires-clause-held : goal.release-requires-clause-held
 release-requires-clause-held g c =
     let n = get_or c.args.order.now c.loop-place.place 0 in
     let is = subst (λ ns. slice_get ns n ≡ Some c.get.result.now) c.ir-in-loop-place.ensures c.get.ensures in
-    let held = node-held (functions_of (g.F.Functions.counted c.args.functions.now) g.F.Functions.streams g.F.Functions.answer g.F.Functions.declared) (plan_with c.args.valid.now c.args.exprs.now) c.args.order.now c.args.until.now c.requires.survey c.requires.wanted
+    let held = node-held (functions_of (g.F.Functions.counted c.args.functions.now) g.F.Functions.streams g.F.Functions.answer g.F.Functions.declared) (plan_with c.args.valid.now c.args.exprs.now.items) c.args.order.now c.args.until.now c.requires.survey c.requires.wanted
     c.loop-place.place c.loop-place.tables n c.get.result.now (slice_get-get_or c.args.order.now c.loop-place.place 0 c.loop-place-test.true) is c.loop-place.invariant in
     subst (λ ns. All (λ (m : Node). m.0 < length c.loop-place.tables) ns) (sym (c.as_slice-in-loop-place.ensures.value ∙ c.in_ok-inputs.ensures.inputs))
     (λ k d h. slice_get_within c.loop-place.tables (get_or (entry_inputs c.get.result.now) k d).0 (Some (held k d h).0) (held k d h).1)
@@ -50,7 +50,7 @@ release-requires-clause-held g c =
 pub evaluate_node-requires-clause-inputs : goal.evaluate_node-requires-clause-inputs
 evaluate_node-requires-clause-inputs g c =
     let F = functions_of (g.F.Functions.counted c.args.functions.now) g.F.Functions.streams g.F.Functions.answer g.F.Functions.declared in
-    let plan = plan_with c.args.valid.now c.args.exprs.now in
+    let plan = plan_with c.args.valid.now c.args.exprs.now.items in
     let n = get_or c.args.order.now c.loop-place.place 0 in
     let is = subst (λ ns. slice_get ns n ≡ Some c.get.result.now) c.ir-in-loop-place.ensures c.get.ensures in
     let given = c.as_slice-in-loop-place-2.ensures.value ∙ c.in_ok-given.ensures.tables ∙ ap (tables_in c.loop-place.tables) (c.as_slice.ensures.value ∙ c.in_ok-inputs.ensures.inputs) in
@@ -61,7 +61,7 @@ evaluate_node-requires-clause-inputs g c =
 pub returns-in_err-table-clause-fault : goal.returns-in_err-table-clause-fault
 returns-in_err-table-clause-fault g c =
     let F = functions_of (g.F.Functions.counted c.args.functions.now) g.F.Functions.streams g.F.Functions.answer g.F.Functions.declared in
-    let plan = plan_with c.args.valid.now c.args.exprs.now in
+    let plan = plan_with c.args.valid.now c.args.exprs.now.items in
     let n = get_or c.args.order.now c.loop-place.place 0 in
     let is = subst (λ ns. slice_get ns n ≡ Some c.get.result.now) c.ir-in-loop-place.ensures c.get.ensures in
     let given = c.as_slice-in-loop-place-2.ensures.value ∙ c.in_ok-given.ensures.tables ∙ ap (tables_in c.loop-place.tables) (c.as_slice.ensures.value ∙ c.in_ok-inputs.ensures.inputs) in
@@ -74,7 +74,7 @@ returns-in_err-table-clause-fault g c =
 pub set-requires : goal.set-requires
 set-requires g c =
     let n = get_or c.args.order.now c.loop-place.place 0 in
-    let small = place-within (functions_of (g.F.Functions.counted c.args.functions.now) g.F.Functions.streams g.F.Functions.answer g.F.Functions.declared) (plan_with c.args.valid.now c.args.exprs.now) c.args.order.now c.args.until.now c.requires.survey c.requires.wanted
+    let small = place-within (functions_of (g.F.Functions.counted c.args.functions.now) g.F.Functions.streams g.F.Functions.answer g.F.Functions.declared) (plan_with c.args.valid.now c.args.exprs.now.items) c.args.order.now c.args.until.now c.requires.survey c.requires.wanted
     c.loop-place.place n (slice_get-get_or c.args.order.now c.loop-place.place 0 c.loop-place-test.true) in
     let size = c.loop-place.invariant.size in
     let same = c.release.ensures.size in
@@ -83,7 +83,7 @@ set-requires g c =
 pub loop-place-preserved : goal.loop-place-preserved
 loop-place-preserved g c =
     let F = functions_of (g.F.Functions.counted c.args.functions.now) g.F.Functions.streams g.F.Functions.answer g.F.Functions.declared in
-    let plan = plan_with c.args.valid.now c.args.exprs.now in
+    let plan = plan_with c.args.valid.now c.args.exprs.now.items in
     let n = get_or c.args.order.now c.loop-place.place 0 in
     let is = subst (λ ns. slice_get ns n ≡ Some c.get.result.now) c.ir-in-loop-place.ensures c.get.ensures in
     let given = c.as_slice-in-loop-place-2.ensures.value ∙ c.in_ok-given.ensures.tables ∙ ap (tables_in c.loop-place.tables) (c.as_slice.ensures.value ∙ c.in_ok-inputs.ensures.inputs) in
@@ -94,7 +94,7 @@ loop-place-preserved g c =
 pub share-requires : goal.share-requires
 share-requires g c =
     let F = functions_of (g.F.Functions.counted c.args.functions.now) g.F.Functions.streams g.F.Functions.answer g.F.Functions.declared in
-    let plan = plan_with c.args.valid.now c.args.exprs.now in
+    let plan = plan_with c.args.valid.now c.args.exprs.now.items in
     let ended : c.loop-place.place ≡ length c.args.order.now = omega arith in
     subst (λ r. IsHeld c.loop-place.tables r) (sym c.root.ensures)
     (root-held F plan c.args.order.now c.args.until.now c.requires.survey c.requires.wanted c.loop-place.tables
@@ -103,7 +103,7 @@ share-requires g c =
 pub returns-clause-table : goal.returns-clause-table
 returns-clause-table g c =
     let F = functions_of (g.F.Functions.counted c.args.functions.now) g.F.Functions.streams g.F.Functions.answer g.F.Functions.declared in
-    let plan = plan_with c.args.valid.now c.args.exprs.now in
+    let plan = plan_with c.args.valid.now c.args.exprs.now.items in
     let ended : c.loop-place.place ≡ length c.args.order.now = omega arith in
     let means = root-means F plan c.args.order.now c.args.until.now c.requires.survey c.requires.wanted c.loop-place.tables
     (subst (λ i. Walking F plan c.args.order.now c.args.until.now i c.loop-place.tables) ended c.loop-place.invariant) c.requires.valid.valid c.requires.root in

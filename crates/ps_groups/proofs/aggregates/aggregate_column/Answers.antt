@@ -15,7 +15,7 @@ use Rattle.ps_groups.proofs.aggregates.aggregate_column.Goals as goal
 pub loop-group-preserved : goal.loop-group-preserved
 loop-group-preserved c =
     let at = c.args.at.0 in
-    let t = tree_at c.args.arena.now c.args.expr in
+    let t = tree_at c.args.arena.now.items c.args.expr in
     let tables = c.args.tables.now in
     let i = c.loop-group.group in
     let within : i < length tables = omega arith in
@@ -28,7 +28,7 @@ loop-group-preserved c =
 pub returns-in-Err-clause-error : goal.returns-in-Err-clause-error
 returns-in-Err-clause-error c =
     let at = c.args.at.0 in
-    let t = tree_at c.args.arena.now c.args.expr in
+    let t = tree_at c.args.arena.now.items c.args.expr in
     let tables = c.args.tables.now in
     let i = c.loop-group.group in
     let within : i < length tables = omega arith in
@@ -38,7 +38,7 @@ returns-in-Err-clause-error c =
 pub column_of_values-requires : goal.column_of_values-requires
 column_of_values-requires c =
     let at = c.args.at.0 in
-    let t = tree_at c.args.arena.now c.args.expr in
+    let t = tree_at c.args.arena.now.items c.args.expr in
     let tables = c.args.tables.now in
     let all : take c.loop-group.group tables ≡ tables = take_all c.loop-group.group tables (omega arith) in
     let values = c.loop-group.invariant.values ∙ ap (map (λ f. only_value (eval at (whole f) t))) all in
@@ -47,7 +47,7 @@ column_of_values-requires c =
 pub returns-clause-column : goal.returns-clause-column
 returns-clause-column c =
     let at = c.args.at.0 in
-    let t = tree_at c.args.arena.now c.args.expr in
+    let t = tree_at c.args.arena.now.items c.args.expr in
     let tables = c.args.tables.now in
     let all : take c.loop-group.group tables ≡ tables = take_all c.loop-group.group tables (omega arith) in
     let values = c.loop-group.invariant.values ∙ ap (map (λ f. only_value (eval at (whole f) t))) all in

@@ -8,6 +8,6 @@ use Rattle.ps_groups.proofs.aggregates.aggregate_column.Given as goal
 
 abbrev pub invariant-loop-group : goal.invariant-loop-group
 invariant-loop-group l = record {
-  values : l.values.items ≡ map (λ f. only_value (eval l.at.0 (whole f) (tree_at l.arena l.expr))) (take l.group l.tables);
-  clean : (k : ℕ) (d : Frame) → k < l.group → column_causes (eval l.at.0 (whole (get_or l.tables k d)) (tree_at l.arena l.expr)) ≡ [];
+  values : l.values.items ≡ map (λ f. only_value (eval l.at.0 (whole f) (tree_at l.arena.items l.expr))) (take l.group l.tables);
+  clean : (k : ℕ) (d : Frame) → k < l.group → column_causes (eval l.at.0 (whole (get_or l.tables k d)) (tree_at l.arena.items l.expr)) ≡ [];
 }

@@ -9,11 +9,11 @@ use Rattle.ps_groups.proofs.aggregates.aggregate_columns.Goals as goal
 
 pub aggregate_column-requires-clause-expression : goal.aggregate_column-requires-clause-expression
 aggregate_column-requires-clause-expression c =
-    all-image IsComplete (λ (e : ExprIR). tree_at c.args.arena.now e.node) c.args.aggs.now c.loop-i.i c.index-aggs-i.result c.loop-i-test.true c.index-aggs-i.is c.requires.complete
+    all-image IsComplete (λ (e : ExprIR). tree_at c.args.arena.now.items e.node) c.args.aggs.now c.loop-i.i c.index-aggs-i.result c.loop-i-test.true c.index-aggs-i.is c.requires.complete
 
 pub aggregate_column-requires-clause-kinds : goal.aggregate_column-requires-clause-kinds
 aggregate_column-requires-clause-kinds c k d within =
-    let f = tree_at c.args.arena.now in
+    let f = tree_at c.args.arena.now.items in
     let aggs = c.args.aggs.now in
     let schema = c.args.schema.now in
     let i = c.loop-i.i in
@@ -23,7 +23,7 @@ aggregate_column-requires-clause-kinds c k d within =
 
 pub loop-i-preserved : goal.loop-i-preserved
 loop-i-preserved c =
-    let f = tree_at c.args.arena.now in
+    let f = tree_at c.args.arena.now.items in
     let aggs = c.args.aggs.now in
     let schema = c.args.schema.now in
     let i = c.loop-i.i in
@@ -40,7 +40,7 @@ loop-i-preserved c =
 
 pub returns-in-Err-clause-fault : goal.returns-in-Err-clause-fault
 returns-in-Err-clause-fault c =
-    let f = tree_at c.args.arena.now in
+    let f = tree_at c.args.arena.now.items in
     let aggs = c.args.aggs.now in
     let schema = c.args.schema.now in
     let i = c.loop-i.i in

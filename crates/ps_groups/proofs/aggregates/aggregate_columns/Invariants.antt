@@ -9,5 +9,5 @@ use Rattle.ps_groups.proofs.aggregates.aggregate_columns.Given as goal
 abbrev pub invariant-loop-i : goal.invariant-loop-i
 invariant-loop-i l = record {
   kinds : HasKinds (take l.i (last_fields (length l.aggs) l.schema)) l.columns.items;
-  columns : AllZip (IsAggregate l.at.0 l.tables) (key_trees (tree_at l.arena) (take l.i l.aggs)) l.columns.items;
+  columns : AllZip (IsAggregate l.at.0 l.tables) (key_trees (tree_at l.arena.items) (take l.i l.aggs)) l.columns.items;
 }

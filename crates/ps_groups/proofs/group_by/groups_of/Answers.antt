@@ -17,7 +17,7 @@ use Rattle.ps_groups.proofs.group_by.groups_of.Goals as goal
 pub rows_of_groups-requires-clause-there : goal.rows_of_groups-requires-clause-there
 rows_of_groups-requires-clause-there c =
     let keys = c.args.keyed.now.keys.items in
-    let trees = key_trees (tree_at c.args.arena.now) c.args.aggs.now in
+    let trees = key_trees (tree_at c.args.arena.now.items) c.args.aggs.now in
     subst (λ (ns : List ℕ). All (λ (x : Typed). All (λ i. i < length x.values) ns) c.as_slice-keys.result.now) (sym c.as_slice.ensures.value)
     (subst (All (λ (x : Typed). All (λ i. i < length x.values) c.in_ok-numbering.numbering.firsts.items)) (sym c.as_slice-keys.ensures.value)
     (firsts-there c.args.keyed.now.table keys trees c.args.schema.now c.requires c.in_ok-numbering.numbering c.in_ok-numbering.ensures.numbers))
@@ -26,11 +26,11 @@ pub rows_of_groups-requires-clause-fields : goal.rows_of_groups-requires-clause-
 rows_of_groups-requires-clause-fields c =
     let keys = c.args.keyed.now.keys.items in
     let aggs = c.args.aggs.now in
-    let trees = key_trees (tree_at c.args.arena.now) aggs in
+    let trees = key_trees (tree_at c.args.arena.now.items) aggs in
     let schema = c.args.schema.now in
     let firsts = c.in_ok-numbering.numbering.firsts.items in
     let values = c.in-Ok.values.items in
-    let many : length trees ≡ length aggs = length-map aggs (λ (e : ExprIR). tree_at c.args.arena.now e.node) in
+    let many : length trees ≡ length aggs = length-map aggs (λ (e : ExprIR). tree_at c.args.arena.now.items e.node) in
     let kinds = subst (λ m. HasKinds (last_fields m schema) values) (sym many) c.in-Ok.ensures.kinds in
     subst (λ (ns : List ℕ). IsFrame schema (map (gathered ns) c.as_slice-keys.result.now ++ values) (length ns)) (sym c.as_slice.ensures.value)
     (subst (λ (cs : List Typed). IsFrame schema (map (gathered firsts) cs ++ values) (length firsts)) (sym c.as_slice-keys.ensures.value)
@@ -39,7 +39,7 @@ rows_of_groups-requires-clause-fields c =
 pub returns-in-Ok-clause-rows : goal.returns-in-Ok-clause-rows
 returns-in-Ok-clause-rows c =
     let keys = c.args.keyed.now.keys.items in
-    let trees = key_trees (tree_at c.args.arena.now) c.args.aggs.now in
+    let trees = key_trees (tree_at c.args.arena.now.items) c.args.aggs.now in
     let values = c.in-Ok.values.items in
     if_ok c.rows_of_groups.result _ _
     (λ f rows.
@@ -50,7 +50,7 @@ returns-in-Ok-clause-rows c =
 pub returns-in-Ok-clause-clean : goal.returns-in-Ok-clause-clean
 returns-in-Ok-clause-clean c =
     let keys = c.args.keyed.now.keys.items in
-    let trees = key_trees (tree_at c.args.arena.now) c.args.aggs.now in
+    let trees = key_trees (tree_at c.args.arena.now.items) c.args.aggs.now in
     on_ok c.rows_of_groups.result _
     (groups-clean c.args.keyed.now.table keys trees c.args.schema.now c.requires c.in_ok-numbering.numbering c.in_ok-numbering.ensures.numbers c.args.at.0 c.in-Ok.values.items c.in-Ok.ensures.columns)
 

@@ -13,18 +13,18 @@ use Rattle.ps_survey.proofs.extents.expr_extents.Goals as goal
 pub extent_below-below-requires-clause-number : goal.extent_below-below-requires-clause-number
 extent_below-below-requires-clause-number g c =
     let e = get_or c.args.order.now c.loop-expr.expr-index 0 in
-    IsExpression-in_range c.args.exprs.now (record { 0 = e }) (c.requires.complete e (among c.args.order.now c.loop-expr.expr-index c.loop-expr-test.true))
+    IsExpression-in_range c.args.exprs.now.items (record { 0 = e }) (c.requires.complete e (among c.args.order.now c.loop-expr.expr-index c.loop-expr-test.true))
 
 pub extent_below-below-requires-clause-known : goal.extent_below-below-requires-clause-known
 extent_below-below-requires-clause-known g c = λ m h.
-    let x = c.loop-expr.invariant.extents m (named-before (operands_in c.args.exprs.now) c.args.order.now c.loop-expr.expr-index c.loop-expr-test.true c.requires.first m h) in
+    let x = c.loop-expr.invariant.extents m (named-before (operands_in c.args.exprs.now.items) c.args.order.now c.loop-expr.expr-index c.loop-expr-test.true c.requires.first m h) in
     let l = slice_get_within c.loop-expr.table.items m x.0 x.1 in
     subst (λ xs. m < length xs) (sym c.deref.ensures.value) l
 
 pub index_mut-requires : goal.index_mut-requires
 index_mut-requires g c =
     let e = get_or c.args.order.now c.loop-expr.expr-index 0 in
-    let l = IsExpression-in_range c.args.exprs.now (record { 0 = e }) (c.requires.complete e (among c.args.order.now c.loop-expr.expr-index c.loop-expr-test.true)) in
+    let l = IsExpression-in_range c.args.exprs.now.items (record { 0 = e }) (c.requires.complete e (among c.args.order.now c.loop-expr.expr-index c.loop-expr-test.true)) in
     let s = c.loop-expr.invariant.size in
     let v = c.loop-expr.table.ok.0 in
     omega (arith, l, s, v)
@@ -32,7 +32,7 @@ index_mut-requires g c =
 pub loop-expr-preserved : goal.loop-expr-preserved
 loop-expr-preserved g c =
     let order = c.args.order.now in
-    let exprs = c.args.exprs.now in
+    let exprs = c.args.exprs.now.items in
     let table = c.loop-expr.table.items in
     let i = c.loop-expr.expr-index in
     let h = c.loop-expr-test.true in
@@ -55,10 +55,10 @@ loop-expr-preserved g c =
 
 pub returns-clause-extents : goal.returns-clause-extents
 returns-clause-extents g c =
-    table-all (expr_depth c.args.exprs.now) (expr_size c.args.exprs.now) c.args.order.now c.loop-expr.expr-index c.loop-expr.table.items c.loop-expr-test.false c.loop-expr.invariant.extents
+    table-all (expr_depth c.args.exprs.now.items) (expr_size c.args.exprs.now.items) c.args.order.now c.loop-expr.expr-index c.loop-expr.table.items c.loop-expr-test.false c.loop-expr.invariant.extents
 
 pub returns-clause-steps : goal.returns-clause-steps
 returns-clause-steps g c =
-    let a = looks-all (operands_in c.args.exprs.now) c.args.order.now c.loop-expr.expr-index in
+    let a = looks-all (operands_in c.args.exprs.now.items) c.args.order.now c.loop-expr.expr-index in
     let was = c.loop-expr.invariant.looks in
     omega (arith, a, was)

@@ -7,7 +7,7 @@ use Rattle.ps_survey.proofs.extents.expr_extents.Given as goal
 
 abbrev pub invariant-loop-expr : goal.invariant-loop-expr
 invariant-loop-expr g l = record {
-  size : length l.table.items ≡ length l.exprs;
-  extents : (e : ℕ) → Contains (take l.expr-index l.order) e → HasExtent l.table.items e (expr_depth l.exprs e) (expr_size l.exprs e);
-  looks : l.steps ≤ l.fn.steps + looks_at (operands_in l.exprs) (take l.expr-index l.order);
+  size : length l.table.items ≡ length l.exprs.items;
+  extents : (e : ℕ) → Contains (take l.expr-index l.order) e → HasExtent l.table.items e (expr_depth l.exprs.items e) (expr_size l.exprs.items e);
+  looks : l.steps ≤ l.fn.steps + looks_at (operands_in l.exprs.items) (take l.expr-index l.order);
 }

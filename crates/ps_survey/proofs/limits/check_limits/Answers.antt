@@ -18,11 +18,11 @@ returns-in-Err-clause-flaw g c = λ root reached clear. memory
 pub node_extent-extent-requires-clause-node : goal.node_extent-extent-requires-clause-node
 node_extent-extent-requires-clause-node g c =
     let n = get_or c.args.order.now c.loop-node.node-index 0 in
-    IsPlan-in_range c.args.nodes.now c.args.exprs.now (record { 0 = n }) (c.requires.complete n (among c.args.order.now c.loop-node.node-index c.loop-node-test.true))
+    IsPlan-in_range c.args.nodes.now.items c.args.exprs.now.items (record { 0 = n }) (c.requires.complete n (among c.args.order.now c.loop-node.node-index c.loop-node-test.true))
 
 pub node_extent-extent-requires-clause-inputs : goal.node_extent-extent-requires-clause-inputs
 node_extent-extent-requires-clause-inputs g c = λ m h.
-    let x = c.loop-node.invariant.extents m (named-before (inputs_in c.args.nodes.now) c.args.order.now c.loop-node.node-index c.loop-node-test.true c.requires.first m h) in
+    let x = c.loop-node.invariant.extents m (named-before (inputs_in c.args.nodes.now.items) c.args.order.now c.loop-node.node-index c.loop-node-test.true c.requires.first m h) in
     let l = slice_get_within c.loop-node.table.items m x.0 x.1 in
     subst (λ xs. m < length xs) (sym c.deref.ensures.value) l
 
@@ -35,8 +35,8 @@ node_extent-extent-requires-clause-own g c = λ e h.
 pub returns-then-is_past_limits-clause-flaw : goal.returns-then-is_past_limits-clause-flaw
 returns-then-is_past_limits-clause-flaw g c = λ root reached clear.
     let order = c.args.order.now in
-    let nodes = c.args.nodes.now in
-    let exprs = c.args.exprs.now in
+    let nodes = c.args.nodes.now.items in
+    let exprs = c.args.exprs.now.items in
     let table = c.loop-node.table.items in
     let i = c.loop-node.node-index in
     let h = c.loop-node-test.true in
@@ -50,7 +50,7 @@ returns-then-is_past_limits-clause-flaw g c = λ root reached clear.
 
 pub returns-then-is_past_limits-clause-steps : goal.returns-then-is_past_limits-clause-steps
 returns-then-is_past_limits-clause-steps g c =
-    let a = node-looks-within c.args.nodes.now c.args.order.now c.loop-node.node-index c.loop-node-test.true in
+    let a = node-looks-within c.args.nodes.now.items c.args.order.now c.loop-node.node-index c.loop-node-test.true in
     let t = c.tick.ensures in
     let b = c.node_extent-extent.ensures.steps in
     let was = c.loop-node.invariant.looks in
@@ -59,7 +59,7 @@ returns-then-is_past_limits-clause-steps g c =
 pub index_mut-requires : goal.index_mut-requires
 index_mut-requires g c =
     let n = get_or c.args.order.now c.loop-node.node-index 0 in
-    let l = IsPlan-in_range c.args.nodes.now c.args.exprs.now (record { 0 = n }) (c.requires.complete n (among c.args.order.now c.loop-node.node-index c.loop-node-test.true)) in
+    let l = IsPlan-in_range c.args.nodes.now.items c.args.exprs.now.items (record { 0 = n }) (c.requires.complete n (among c.args.order.now c.loop-node.node-index c.loop-node-test.true)) in
     let s = c.loop-node.invariant.size in
     let v = c.loop-node.table.ok.0 in
     omega (arith, l, s, v)
@@ -67,8 +67,8 @@ index_mut-requires g c =
 pub loop-node-preserved : goal.loop-node-preserved
 loop-node-preserved g c =
     let order = c.args.order.now in
-    let nodes = c.args.nodes.now in
-    let exprs = c.args.exprs.now in
+    let nodes = c.args.nodes.now.items in
+    let exprs = c.args.exprs.now.items in
     let table = c.loop-node.table.items in
     let i = c.loop-node.node-index in
     let h = c.loop-node-test.true in
@@ -97,6 +97,6 @@ returns-clause-within g c = λ n m. c.loop-node.invariant.within n (whole c.args
 
 pub returns-clause-steps : goal.returns-clause-steps
 returns-clause-steps g c =
-    let a = looks-all (all_in c.args.nodes.now) c.args.order.now c.loop-node.node-index in
+    let a = looks-all (all_in c.args.nodes.now.items) c.args.order.now c.loop-node.node-index in
     let was = c.loop-node.invariant.looks in
     omega (arith, a, was)

@@ -7,8 +7,8 @@ use Rattle.ps_survey.proofs.limits.check_limits.Given as goal
 
 abbrev pub invariant-loop-node : goal.invariant-loop-node
 invariant-loop-node g l = record {
-  size : length l.table.items ≡ length l.nodes;
-  extents : (n : ℕ) → Contains (take l.node-index l.order) n → HasExtent l.table.items n (node_depth l.nodes l.exprs n) (node_size l.nodes l.exprs n);
-  within : (n : ℕ) → Contains (take l.node-index l.order) n → IsWithinLimits (node_depth l.nodes l.exprs n) (node_size l.nodes l.exprs n);
-  looks : l.steps ≤ l.fn.steps + looks_at (all_in l.nodes) (take l.node-index l.order);
+  size : length l.table.items ≡ length l.nodes.items;
+  extents : (n : ℕ) → Contains (take l.node-index l.order) n → HasExtent l.table.items n (node_depth l.nodes.items l.exprs.items n) (node_size l.nodes.items l.exprs.items n);
+  within : (n : ℕ) → Contains (take l.node-index l.order) n → IsWithinLimits (node_depth l.nodes.items l.exprs.items n) (node_size l.nodes.items l.exprs.items n);
+  looks : l.steps ≤ l.fn.steps + looks_at (all_in l.nodes.items) (take l.node-index l.order);
 }

@@ -16,13 +16,13 @@ loop-node-init g c =
     let e = c.in-Ok.ensures in
     let n = c.len.ensures in
     let size = ap (λ ms. length ms) e.marks ∙ length-replicate c.len.result mark.New ∙ n in
-    let looks = looks-fresh operands c.args.exprs.now c.len.result c.in-Ok.search.marks.items e.marks n in
+    let looks = looks-fresh operands c.args.exprs.now.items c.len.result c.in-Ok.search.marks.items e.marks n in
     record {
       size = size;
       trail = e.trail;
-      rest = fresh-is (operands_in c.args.exprs.now) c.len.result c.in-Ok.search.order.items c.in-Ok.search.marks.items e.order e.marks;
-      named = none-named c.args.nodes.now c.args.exprs.now c.in-Ok.search.order.items e.order;
-      own = none-own c.args.nodes.now c.args.exprs.now c.in-Ok.search.order.items;
+      rest = fresh-is (operands_in c.args.exprs.now.items) c.len.result c.in-Ok.search.order.items c.in-Ok.search.marks.items e.order e.marks;
+      named = none-named c.args.nodes.now.items c.args.exprs.now.items c.in-Ok.search.order.items e.order;
+      own = none-own c.args.nodes.now.items c.args.exprs.now.items c.in-Ok.search.order.items;
       looks = omega (arith, looks);
     }
 
@@ -34,7 +34,7 @@ returns-in-Err-visit_exprs-clause-exprs g c = λ root reached. c.in-Err-visit_ex
 
 pub returns-in-Err-visit_exprs-clause-steps : goal.returns-in-Err-visit_exprs-clause-steps
 returns-in-Err-visit_exprs-clause-steps g c =
-    let a = looks-within (exprs_in c.args.nodes.now) c.args.order.now c.loop-node.node-index c.loop-node-test.true in
+    let a = looks-within (exprs_in c.args.nodes.now.items) c.args.order.now c.loop-node.node-index c.loop-node-test.true in
     let t = c.tick.ensures in
     let s = c.in-Err-visit_exprs.ensures.steps in
     let was = c.loop-node.invariant.looks in
@@ -48,7 +48,7 @@ loop-node-preserved g c =
     let before = c.loop-node.search.order.items in
     let after = c.visit_exprs.new.search.order.items in
     let marks = c.visit_exprs.new.search.marks.items in
-    let a = looks-more (exprs_in c.args.nodes.now) c.args.order.now c.loop-node.node-index h in
+    let a = looks-more (exprs_in c.args.nodes.now.items) c.args.order.now c.loop-node.node-index h in
     let t = c.tick.ensures in
     let s = e.steps in
     let was = i.looks in
@@ -56,22 +56,22 @@ loop-node-preserved g c =
       size = e.size;
       trail = e.trail;
       rest = e.done.rest;
-      named = named-more c.args.nodes.now c.args.exprs.now c.args.order.now c.loop-node.node-index h before after marks e.done i.named;
-      own = own-more c.args.nodes.now c.args.exprs.now c.args.order.now c.loop-node.node-index h before after marks e.done i.own;
+      named = named-more c.args.nodes.now.items c.args.exprs.now.items c.args.order.now c.loop-node.node-index h before after marks e.done i.named;
+      own = own-more c.args.nodes.now.items c.args.exprs.now.items c.args.order.now c.loop-node.node-index h before after marks e.done i.own;
       looks = omega (arith, a, t, s, was);
     }
 
 pub returns-clause-exprs : goal.returns-clause-exprs
 returns-clause-exprs g c = λ root reached.
     let i = c.loop-node.invariant in
-    let nodes = c.args.nodes.now in
-    let exprs = c.args.exprs.now in
+    let nodes = c.args.nodes.now.items in
+    let exprs = c.args.exprs.now.items in
     let order = c.args.order.now in
     subst (λ es. IsExprOrder (plan_of root nodes exprs) order es) (sym c.into_order.ensures)
     (expr-order nodes exprs root order c.loop-node.search.order.items c.loop-node.search.marks.items c.loop-node.node-index c.loop-node-test.false i.size i.rest i.named i.own)
 
 pub returns-clause-steps : goal.returns-clause-steps
 returns-clause-steps g c =
-    let a = looks-all (exprs_in c.args.nodes.now) c.args.order.now c.loop-node.node-index in
+    let a = looks-all (exprs_in c.args.nodes.now.items) c.args.order.now c.loop-node.node-index in
     let was = c.loop-node.invariant.looks in
     omega (arith, a, was)

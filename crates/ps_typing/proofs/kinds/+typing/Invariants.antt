@@ -7,10 +7,10 @@ use Rattle.ps_frame.specs.Parts.{trees_parts}
 use Rattle.ps_typing.proofs.kinds.+typing.Given as goal
 
 abbrev pub decreases-type_expr : goal.decreases-type_expr
-decreases-type_expr g l = 2 * tree_size (tree_at l.arena.now l.expr)
+decreases-type_expr g l = 2 * tree_size (tree_at l.arena.now.items l.expr)
 
 abbrev pub decreases-type_keys : goal.decreases-type_keys
-decreases-type_keys g l = 2 * trees_size (trees_of (tree_at l.arena.now) l.keys.now) + 1
+decreases-type_keys g l = 2 * trees_size (trees_of (tree_at l.arena.now.items) l.keys.now) + 1
 
 abbrev pub invariant-type_keys-loop-key : goal.invariant-type_keys-loop-key
 invariant-type_keys-loop-key g l =

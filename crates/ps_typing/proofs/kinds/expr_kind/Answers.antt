@@ -15,6 +15,6 @@ weaker (Err e) P Q w h = w e h
 
 pub returns-clause-exact : goal.returns-clause-exact
 returns-clause-exact c =
-    weaker c.uncounted_kind.result (IsTypingError c.args.at c.args.schema.now (tree_at c.args.arena.now c.args.expr)) (λ e. e ≢ error.OutOfMemory → kind_over c.args.schema.now (tree_at c.args.arena.now c.args.expr) ≡ None)
-    (λ e h. no-kind c.args.at c.args.schema.now (tree_at c.args.arena.now c.args.expr) e (c.kinds_are_exact.ensures c.args.schema.now (tree_at c.args.arena.now c.args.expr)) h)
+    weaker c.uncounted_kind.result (IsTypingError c.args.at c.args.schema.now (tree_at c.args.arena.now.items c.args.expr)) (λ e. e ≢ error.OutOfMemory → kind_over c.args.schema.now (tree_at c.args.arena.now.items c.args.expr) ≡ None)
+    (λ e h. no-kind c.args.at c.args.schema.now (tree_at c.args.arena.now.items c.args.expr) e (c.kinds_are_exact.ensures c.args.schema.now (tree_at c.args.arena.now.items c.args.expr)) h)
     c.uncounted_kind.ensures.refused

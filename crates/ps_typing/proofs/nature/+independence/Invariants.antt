@@ -7,10 +7,10 @@ use Rattle.ps_frame.specs.Typing.{every_part_of_all, reads_no_input}
 use Rattle.ps_typing.proofs.nature.+independence.Given as goal
 
 abbrev pub decreases-independence_of : goal.decreases-independence_of
-decreases-independence_of g l = 2 * tree_size (tree_at l.arena.now l.expr)
+decreases-independence_of g l = 2 * tree_size (tree_at l.arena.now.items l.expr)
 
 abbrev pub decreases-independence_of_all : goal.decreases-independence_of_all
-decreases-independence_of_all g l = 2 * trees_size (trees_of (tree_at l.arena.now) l.exprs.now) + 1
+decreases-independence_of_all g l = 2 * trees_size (trees_of (tree_at l.arena.now.items) l.exprs.now) + 1
 
 abbrev pub invariant-independence_of_all-loop-expr : goal.invariant-independence_of_all-loop-expr
 invariant-independence_of_all-loop-expr g l =

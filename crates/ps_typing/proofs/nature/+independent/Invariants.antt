@@ -4,10 +4,10 @@ use Rattle.ps_frame.specs.Typing.{every_part_of_all, reads_no_input}
 use Rattle.ps_typing.proofs.nature.+independent.Given as goal
 
 abbrev pub decreases-are_independent : goal.decreases-are_independent
-decreases-are_independent l = 2 * trees_size (trees_of (tree_at l.arena.now) l.exprs.now) + 1
+decreases-are_independent l = 2 * trees_size (trees_of (tree_at l.arena.now.items) l.exprs.now) + 1
 
 abbrev pub decreases-is_independent : goal.decreases-is_independent
-decreases-is_independent l = 2 * tree_size (tree_at l.arena.now l.expr)
+decreases-is_independent l = 2 * tree_size (tree_at l.arena.now.items l.expr)
 
 abbrev pub invariant-are_independent-loop-expr : goal.invariant-are_independent-loop-expr
 invariant-are_independent-loop-expr l =

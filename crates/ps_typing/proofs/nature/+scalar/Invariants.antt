@@ -4,10 +4,10 @@ use Rattle.ps_frame.specs.Typing.{are_scalar as are_scalar_trees}
 use Rattle.ps_typing.proofs.nature.+scalar.Given as goal
 
 abbrev pub decreases-are_scalar : goal.decreases-are_scalar
-decreases-are_scalar l = 2 * trees_size (trees_of (tree_at l.arena.now) l.exprs.now) + 1
+decreases-are_scalar l = 2 * trees_size (trees_of (tree_at l.arena.now.items) l.exprs.now) + 1
 
 abbrev pub decreases-is_scalar : goal.decreases-is_scalar
-decreases-is_scalar l = 2 * tree_size (tree_at l.arena.now l.expr)
+decreases-is_scalar l = 2 * tree_size (tree_at l.arena.now.items l.expr)
 
 abbrev pub invariant-are_scalar-loop-expr : goal.invariant-are_scalar-loop-expr
 invariant-are_scalar-loop-expr l =

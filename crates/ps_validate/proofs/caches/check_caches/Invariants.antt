@@ -6,6 +6,6 @@ use Rattle.ps_validate.proofs.caches.check_caches.Given as goal
 abbrev pub invariant-loop-node : goal.invariant-loop-node
 invariant-loop-node g l =
     record {
-      ids : Caching l.ir l.order l.node-index (get nat_eq l.inputs);
+      ids : Caching l.ir.items l.order l.node-index (get nat_eq l.inputs);
       steps : l.steps ≤ l.initial.steps + l.node-index;
     }

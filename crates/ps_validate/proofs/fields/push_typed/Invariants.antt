@@ -3,4 +3,4 @@ use Rattle.ps_validate.proofs.Adding.{Left}
 use Rattle.ps_validate.proofs.fields.push_typed.Given as goal
 
 abbrev pub invariant-loop-expr : goal.invariant-loop-expr
-invariant-loop-expr g l = Left (tree_at l.arena) l.input l.initial.schema l.exprs l.expr-index l.schema l.all_scalar l.initial.steps l.steps
+invariant-loop-expr g l = Left (tree_at l.arena.items) l.input l.initial.schema l.exprs l.expr-index l.schema l.all_scalar l.initial.steps l.steps

@@ -11,6 +11,6 @@ use Rattle.std.proofs.Common.{◌≡◌, ◌∙◌, ap, sym, subst}
 
 pub returns-in_err-push_without-clause-memory : goal.returns-in_err-push_without-clause-memory
 returns-in_err-push_without-clause-memory c =
-    let ns = bare_names (key_trees (tree_at c.args.arena.now) c.args.keys.now) in
+    let ns = bare_names (key_trees (tree_at c.args.arena.now.items) c.args.keys.now) in
     memory-on c.in_err-push_without.field-0.0 c.from_residual-in_err-push_without.result c.from_residual-in_err-push_without.ensures.1
     (repeats-memory c.args.at c.new-columns.result (without ns c.args.schema.now) c.in_err-push_without.field-0.0 c.new-columns.ensures (without-distinct ns c.args.schema.now c.names_differ.ensures) (c.in_err-push_without.ensures.refused ns c.in_ok-names.ensures.names))

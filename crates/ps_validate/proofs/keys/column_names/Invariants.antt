@@ -10,6 +10,6 @@ use Rattle.ps_validate.proofs.keys.column_names.Given as goal
 abbrev pub invariant-loop-key : goal.invariant-loop-key
 invariant-loop-key l =
     record {
-      complete : AllByRecursion IsComplete (key_trees (tree_at l.arena) (drop l.key-index l.keys));
-      names : (n : Name) → (contains_text l.names n || is_among n (bare_names (key_trees (tree_at l.arena) (drop l.key-index l.keys)))) ≡ is_among n (bare_names (key_trees (tree_at l.arena) l.keys));
+      complete : AllByRecursion IsComplete (key_trees (tree_at l.arena.items) (drop l.key-index l.keys));
+      names : (n : Name) → (contains_text l.names n || is_among n (bare_names (key_trees (tree_at l.arena.items) (drop l.key-index l.keys)))) ≡ is_among n (bare_names (key_trees (tree_at l.arena.items) l.keys));
     }

@@ -9,7 +9,7 @@ use Rattle.ps_validate.proofs.schemas.check_aggregates.Given as goal
 abbrev pub invariant-loop-agg : goal.invariant-loop-agg
 invariant-loop-agg g l =
     record {
-      complete : AllByRecursion IsComplete (exprs_of (named_trees (tree_at l.arena) (drop l.agg-index l.aggs)));
-      left : list_any (some_part is_literal_aggregate) (exprs_of (named_trees (tree_at l.arena) l.aggs)) ≡ list_any (some_part is_literal_aggregate) (exprs_of (named_trees (tree_at l.arena) (drop l.agg-index l.aggs)));
-      steps : l.steps + all_sizes (exprs_of (named_trees (tree_at l.arena) (drop l.agg-index l.aggs))) ≤ l.initial.steps + all_sizes (exprs_of (named_trees (tree_at l.arena) l.aggs));
+      complete : AllByRecursion IsComplete (exprs_of (named_trees (tree_at l.arena.items) (drop l.agg-index l.aggs)));
+      left : list_any (some_part is_literal_aggregate) (exprs_of (named_trees (tree_at l.arena.items) l.aggs)) ≡ list_any (some_part is_literal_aggregate) (exprs_of (named_trees (tree_at l.arena.items) (drop l.agg-index l.aggs)));
+      steps : l.steps + all_sizes (exprs_of (named_trees (tree_at l.arena.items) (drop l.agg-index l.aggs))) ≤ l.initial.steps + all_sizes (exprs_of (named_trees (tree_at l.arena.items) l.aggs));
     }

@@ -12,37 +12,37 @@ use Rattle.ps_validate.specs.Valid.{IsPlanError}
 
 pub returns-in_err-survey-clause-refused : goal.returns-in_err-survey-clause-refused
 returns-in_err-survey-clause-refused g c =
-    passed-on (IsPlanError (record { count = g.F.Functions.counted c.args.functions.now; streams = g.F.Functions.streams; answer = g.F.Functions.answer; declared = g.F.Functions.declared }) (plan_of c.args.root c.args.ir c.args.exprs.now)) c.in_err-survey.field-0.0 c.from_residual.result c.from_residual.ensures.1 (flaw-error (record { count = g.F.Functions.counted c.args.functions.now; streams = g.F.Functions.streams; answer = g.F.Functions.answer; declared = g.F.Functions.declared }) (plan_of c.args.root c.args.ir c.args.exprs.now) c.in_err-survey.field-0.0 c.in_err-survey.ensures.refused)
+    passed-on (IsPlanError (record { count = g.F.Functions.counted c.args.functions.now; streams = g.F.Functions.streams; answer = g.F.Functions.answer; declared = g.F.Functions.declared }) (plan_of c.args.root c.args.ir.items c.args.exprs.now.items)) c.in_err-survey.field-0.0 c.from_residual.result c.from_residual.ensures.1 (flaw-error (record { count = g.F.Functions.counted c.args.functions.now; streams = g.F.Functions.streams; answer = g.F.Functions.answer; declared = g.F.Functions.declared }) (plan_of c.args.root c.args.ir.items c.args.exprs.now.items) c.in_err-survey.field-0.0 c.in_err-survey.ensures.refused)
 
 pub check_caches-requires : goal.check_caches-requires
 check_caches-requires g c =
-    let survey = (subst (λ ns. IsSurvey (plan_of c.args.root c.args.ir c.args.exprs.now) ns) (sym c.order.ensures) (survey-of (plan_of c.args.root c.args.ir c.args.exprs.now) c.in_ok-survey.survey c.in_ok-survey.ensures.reached c.in_ok-survey.ensures.once c.in_ok-survey.ensures.inputs_first c.in_ok-survey.ensures.complete c.in_ok-survey.ensures.in_range c.in_ok-survey.ensures.no_circle c.in_ok-survey.ensures.depth c.in_ok-survey.ensures.occurrences)) in
+    let survey = (subst (λ ns. IsSurvey (plan_of c.args.root c.args.ir.items c.args.exprs.now.items) ns) (sym c.order.ensures) (survey-of (plan_of c.args.root c.args.ir.items c.args.exprs.now.items) c.in_ok-survey.survey c.in_ok-survey.ensures.reached c.in_ok-survey.ensures.once c.in_ok-survey.ensures.inputs_first c.in_ok-survey.ensures.complete c.in_ok-survey.ensures.in_range c.in_ok-survey.ensures.no_circle c.in_ok-survey.ensures.depth c.in_ok-survey.ensures.occurrences)) in
     λ n stands. (survey.in_range n (survey.reached n stands)).nodes n here
 
 pub returns-in_err-check_caches-clause-refused : goal.returns-in_err-check_caches-clause-refused
 returns-in_err-check_caches-clause-refused g c =
-    passed-on (IsPlanError (record { count = g.F.Functions.counted c.args.functions.now; streams = g.F.Functions.streams; answer = g.F.Functions.answer; declared = g.F.Functions.declared }) (plan_of c.args.root c.args.ir c.args.exprs.now)) c.in_err-check_caches.field-0.0 c.from_residual-in_err-check_caches.result c.from_residual-in_err-check_caches.ensures.1
-    (cache-error (record { count = g.F.Functions.counted c.args.functions.now; streams = g.F.Functions.streams; answer = g.F.Functions.answer; declared = g.F.Functions.declared }) (plan_of c.args.root c.args.ir c.args.exprs.now) c.order.result.now (subst (λ ns. IsSurvey (plan_of c.args.root c.args.ir c.args.exprs.now) ns) (sym c.order.ensures) (survey-of (plan_of c.args.root c.args.ir c.args.exprs.now) c.in_ok-survey.survey c.in_ok-survey.ensures.reached c.in_ok-survey.ensures.once c.in_ok-survey.ensures.inputs_first c.in_ok-survey.ensures.complete c.in_ok-survey.ensures.in_range c.in_ok-survey.ensures.no_circle c.in_ok-survey.ensures.depth c.in_ok-survey.ensures.occurrences)) c.in_err-check_caches.field-0.0 c.in_err-check_caches.ensures.refused)
+    passed-on (IsPlanError (record { count = g.F.Functions.counted c.args.functions.now; streams = g.F.Functions.streams; answer = g.F.Functions.answer; declared = g.F.Functions.declared }) (plan_of c.args.root c.args.ir.items c.args.exprs.now.items)) c.in_err-check_caches.field-0.0 c.from_residual-in_err-check_caches.result c.from_residual-in_err-check_caches.ensures.1
+    (cache-error (record { count = g.F.Functions.counted c.args.functions.now; streams = g.F.Functions.streams; answer = g.F.Functions.answer; declared = g.F.Functions.declared }) (plan_of c.args.root c.args.ir.items c.args.exprs.now.items) c.order.result.now (subst (λ ns. IsSurvey (plan_of c.args.root c.args.ir.items c.args.exprs.now.items) ns) (sym c.order.ensures) (survey-of (plan_of c.args.root c.args.ir.items c.args.exprs.now.items) c.in_ok-survey.survey c.in_ok-survey.ensures.reached c.in_ok-survey.ensures.once c.in_ok-survey.ensures.inputs_first c.in_ok-survey.ensures.complete c.in_ok-survey.ensures.in_range c.in_ok-survey.ensures.no_circle c.in_ok-survey.ensures.depth c.in_ok-survey.ensures.occurrences)) c.in_err-check_caches.field-0.0 c.in_err-check_caches.ensures.refused)
 
 pub returns-in_err-check_caches-clause-steps : goal.returns-in_err-check_caches-clause-steps
 returns-in_err-check_caches-clause-steps g c =
     let first = c.survey_plan.ensures.steps in
-    let small : length c.order.result.now ≤ 65536 = order-small (plan_of c.args.root c.args.ir c.args.exprs.now) c.order.result.now (subst (λ ns. IsSurvey (plan_of c.args.root c.args.ir c.args.exprs.now) ns) (sym c.order.ensures) (survey-of (plan_of c.args.root c.args.ir c.args.exprs.now) c.in_ok-survey.survey c.in_ok-survey.ensures.reached c.in_ok-survey.ensures.once c.in_ok-survey.ensures.inputs_first c.in_ok-survey.ensures.complete c.in_ok-survey.ensures.in_range c.in_ok-survey.ensures.no_circle c.in_ok-survey.ensures.depth c.in_ok-survey.ensures.occurrences)) in
+    let small : length c.order.result.now ≤ 65536 = order-small (plan_of c.args.root c.args.ir.items c.args.exprs.now.items) c.order.result.now (subst (λ ns. IsSurvey (plan_of c.args.root c.args.ir.items c.args.exprs.now.items) ns) (sym c.order.ensures) (survey-of (plan_of c.args.root c.args.ir.items c.args.exprs.now.items) c.in_ok-survey.survey c.in_ok-survey.ensures.reached c.in_ok-survey.ensures.once c.in_ok-survey.ensures.inputs_first c.in_ok-survey.ensures.complete c.in_ok-survey.ensures.in_range c.in_ok-survey.ensures.no_circle c.in_ok-survey.ensures.depth c.in_ok-survey.ensures.occurrences)) in
     let caches = c.check_caches.ensures.steps in
     omega arith
 
 pub node_schemas-requires-clause-survey : goal.node_schemas-requires-clause-survey
 node_schemas-requires-clause-survey g c =
-    λ κs lives. (subst (λ ns. IsSurvey (plan_of c.args.root c.args.ir c.args.exprs.now) ns) (sym c.order-2.ensures) (survey-of (plan_of c.args.root c.args.ir c.args.exprs.now) c.in_ok-survey.survey c.in_ok-survey.ensures.reached c.in_ok-survey.ensures.once c.in_ok-survey.ensures.inputs_first c.in_ok-survey.ensures.complete c.in_ok-survey.ensures.in_range c.in_ok-survey.ensures.no_circle c.in_ok-survey.ensures.depth c.in_ok-survey.ensures.occurrences))
+    λ κs lives. (subst (λ ns. IsSurvey (plan_of c.args.root c.args.ir.items c.args.exprs.now.items) ns) (sym c.order-2.ensures) (survey-of (plan_of c.args.root c.args.ir.items c.args.exprs.now.items) c.in_ok-survey.survey c.in_ok-survey.ensures.reached c.in_ok-survey.ensures.once c.in_ok-survey.ensures.inputs_first c.in_ok-survey.ensures.complete c.in_ok-survey.ensures.in_range c.in_ok-survey.ensures.no_circle c.in_ok-survey.ensures.depth c.in_ok-survey.ensures.occurrences))
 
 pub node_schemas-requires-clause-caches : goal.node_schemas-requires-clause-caches
 node_schemas-requires-clause-caches g c =
-    λ κs lives. subst (λ ns. HaveOneInput c.args.ir ns) (c.order.ensures ∙ sym c.order-2.ensures) c.in_ok-check_caches.ensures.one_input
+    λ κs lives. subst (λ ns. HaveOneInput c.args.ir.items ns) (c.order.ensures ∙ sym c.order-2.ensures) c.in_ok-check_caches.ensures.one_input
 
 pub returns-in_err-schemas-clause-steps : goal.returns-in_err-schemas-clause-steps
 returns-in_err-schemas-clause-steps g c =
     let first = c.survey_plan.ensures.steps in
-    let small : length c.order.result.now ≤ 65536 = order-small (plan_of c.args.root c.args.ir c.args.exprs.now) c.order.result.now (subst (λ ns. IsSurvey (plan_of c.args.root c.args.ir c.args.exprs.now) ns) (sym c.order.ensures) (survey-of (plan_of c.args.root c.args.ir c.args.exprs.now) c.in_ok-survey.survey c.in_ok-survey.ensures.reached c.in_ok-survey.ensures.once c.in_ok-survey.ensures.inputs_first c.in_ok-survey.ensures.complete c.in_ok-survey.ensures.in_range c.in_ok-survey.ensures.no_circle c.in_ok-survey.ensures.depth c.in_ok-survey.ensures.occurrences)) in
+    let small : length c.order.result.now ≤ 65536 = order-small (plan_of c.args.root c.args.ir.items c.args.exprs.now.items) c.order.result.now (subst (λ ns. IsSurvey (plan_of c.args.root c.args.ir.items c.args.exprs.now.items) ns) (sym c.order.ensures) (survey-of (plan_of c.args.root c.args.ir.items c.args.exprs.now.items) c.in_ok-survey.survey c.in_ok-survey.ensures.reached c.in_ok-survey.ensures.once c.in_ok-survey.ensures.inputs_first c.in_ok-survey.ensures.complete c.in_ok-survey.ensures.in_range c.in_ok-survey.ensures.no_circle c.in_ok-survey.ensures.depth c.in_ok-survey.ensures.occurrences)) in
     let caches = c.check_caches.ensures.steps in
     let nodes = c.node_schemas.ensures.steps in
     omega arith
@@ -50,7 +50,7 @@ returns-in_err-schemas-clause-steps g c =
 pub returns-clause-steps : goal.returns-clause-steps
 returns-clause-steps g c =
     let first = c.survey_plan.ensures.steps in
-    let small : length c.order.result.now ≤ 65536 = order-small (plan_of c.args.root c.args.ir c.args.exprs.now) c.order.result.now (subst (λ ns. IsSurvey (plan_of c.args.root c.args.ir c.args.exprs.now) ns) (sym c.order.ensures) (survey-of (plan_of c.args.root c.args.ir c.args.exprs.now) c.in_ok-survey.survey c.in_ok-survey.ensures.reached c.in_ok-survey.ensures.once c.in_ok-survey.ensures.inputs_first c.in_ok-survey.ensures.complete c.in_ok-survey.ensures.in_range c.in_ok-survey.ensures.no_circle c.in_ok-survey.ensures.depth c.in_ok-survey.ensures.occurrences)) in
+    let small : length c.order.result.now ≤ 65536 = order-small (plan_of c.args.root c.args.ir.items c.args.exprs.now.items) c.order.result.now (subst (λ ns. IsSurvey (plan_of c.args.root c.args.ir.items c.args.exprs.now.items) ns) (sym c.order.ensures) (survey-of (plan_of c.args.root c.args.ir.items c.args.exprs.now.items) c.in_ok-survey.survey c.in_ok-survey.ensures.reached c.in_ok-survey.ensures.once c.in_ok-survey.ensures.inputs_first c.in_ok-survey.ensures.complete c.in_ok-survey.ensures.in_range c.in_ok-survey.ensures.no_circle c.in_ok-survey.ensures.depth c.in_ok-survey.ensures.occurrences)) in
     let caches = c.check_caches.ensures.steps in
     let nodes = c.node_schemas.ensures.steps in
     omega arith

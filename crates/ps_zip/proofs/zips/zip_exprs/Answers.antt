@@ -9,17 +9,17 @@ use Rattle.ps_zip.proofs.zips.zip_exprs.Goals as goal
 
 pub zip_inputs-requires : goal.zip_inputs-requires
 zip_inputs-requires c =
-    added-fit c.args.df.now (key_trees (tree_at c.args.arena.now) c.args.exprs.now) c.in_ok-inputs.inputs.items c.push_exprs.new.inputs.items
+    added-fit c.args.df.now (key_trees (tree_at c.args.arena.now.items) c.args.exprs.now) c.in_ok-inputs.inputs.items c.push_exprs.new.inputs.items
     (subst (AllByRecursion FitsItsKind) (sym c.in_ok-inputs.ensures.items) tt) c.in_ok-push_exprs.ensures
 
 pub returns-clause-rows : goal.returns-clause-rows
 returns-clause-rows c =
     if_ok c.zip_inputs.result _ _
-    (λ zip s. alone-keeps c.args.df.now c.args.at.0 (key_trees (tree_at c.args.arena.now) c.args.exprs.now) c.in_ok-inputs.inputs.items c.push_exprs.new.inputs.items c.in_ok-push_exprs.ensures c.in_ok-inputs.ensures.items zip.columns.items zip.height s)
+    (λ zip s. alone-keeps c.args.df.now c.args.at.0 (key_trees (tree_at c.args.arena.now.items) c.args.exprs.now) c.in_ok-inputs.inputs.items c.push_exprs.new.inputs.items c.in_ok-push_exprs.ensures c.in_ok-inputs.ensures.items zip.columns.items zip.height s)
     c.zip_inputs.ensures.rows
 
 pub returns-clause-error : goal.returns-clause-error
 returns-clause-error c =
     if_err c.zip_inputs.result _ _
-    (λ e h. alone-error c.args.df.now c.args.at.0 (key_trees (tree_at c.args.arena.now) c.args.exprs.now) c.in_ok-inputs.inputs.items c.push_exprs.new.inputs.items c.in_ok-push_exprs.ensures c.in_ok-inputs.ensures.items e h)
+    (λ e h. alone-error c.args.df.now c.args.at.0 (key_trees (tree_at c.args.arena.now.items) c.args.exprs.now) c.in_ok-inputs.inputs.items c.push_exprs.new.inputs.items c.in_ok-push_exprs.ensures c.in_ok-inputs.ensures.items e h)
     c.zip_inputs.ensures.error

@@ -46,6 +46,7 @@ use Rattle.std.proofs.Common.{slice_get, Some}
 use Rattle.std.specs.List.{refill}
 use Rattle.pu_index.proofs.Pairs.{refill-set_twice}
 use Rattle.pu_index.specs.ArenaLends.{lends_entries, lends_pair}
+use Rattle.pu_index.specs.Entries.{Entries}
 use Rattle.pu_index.specs.declared.arena.Node.{Node}
 use Rattle.pu_index.specs.contracts.arena.Node as N
 use Rattle.pu_index.specs.contracts.arena.Arena as A
@@ -113,9 +114,16 @@ module _ (X : RattleType) {M : Type 1} {𝓤 : Ura M} (𝓛 : Logic 𝓤) (𝓜 
   abbrev held : Clauses 𝓤 (ended X)
   held = F.clauses X 𝓛 𝓜.mem 𝓡.returns
 
-  module _ (κ κT : Lft) (q qT : Share) (bd : AllOutlive 2 (ended X).signature.outlives (κ, (κT, tt))) (b o : ℕ) (γ : GName) (xs : List X.Denot) (m n : Node) where
-    abbrev self : MutBor (List X.Denot)
-    self = record { ref_ptr = (b, o); ghost_name = γ; now = xs }
+  module _ (κ κT : Lft) (q qT : Share) (bd : AllOutlive 2 (ended X).signature.outlives (κ, (κT, tt))) (b o : ℕ) (γ : GName) (arena : Entries X.Denot) (m n : Node) where
+    abbrev xs : List X.Denot
+    xs = arena.items
+
+    abbrev self : MutBor (Entries X.Denot)
+    self = record { ref_ptr = (b, o); ghost_name = γ; now = arena }
+
+    -- the arena with other entries
+    abbrev holding : List X.Denot → Entries X.Denot
+    holding items = record arena { items = items }
 
     abbrev toks : SProp 𝓤
     toks = alive 𝓛 (ended X).signature (κ, (κT, tt)) (q, (qT, tt))
@@ -123,8 +131,8 @@ module _ (X : RattleType) {M : Type 1} {𝓤 : Ura M} (𝓛 : Logic 𝓤) (𝓜 
     abbrev Whole : RattleType
     Whole = MutRef (named 0) κ (A.the_row (R X))
 
-    abbrev Entries : RattleType
-    Entries = MutSlice (named 0) κ (R X)
+    abbrev Lent : RattleType
+    Lent = MutSlice (named 0) κ (R X)
 
     abbrev One : RattleType
     One = MutRef (named 0) κ (R X)
@@ -167,13 +175,13 @@ module _ (X : RattleType) {M : Type 1} {𝓤 : Ura M} (𝓛 : Logic 𝓤) (𝓜 
         use0 𝓛 (raw (fact 𝓤 (κT ⊑ X.lives))) (fact_i 𝓤 _ (emp 𝓤) lt) $ join ! $ move ! (1 ∷ 0 ∷ []) $ join ! $ use1 𝓛 (raw (k₁.pre y₁)) (id⊢ 𝓤 (k₁.pre y₁)) $
         sets ! (addr ! (through ! refl (stop !))) refl (tt, tt) $
         calls_at ! fm k₁ lent y₁ (and_then ! (get ! refl) (no_more !)) (λ v.
-        use1 𝓛 (later (some (λ (r : MutBor (List X.Denot)). (raw toks ⊛ ‵ (Entries.own_val r (v ∷ []))) ⊛ some (λ (ws : Unit {0} × Unit {0}). ‵ (fsep ftrue ftrue) ⊛ (‵ (lends_entries (R X) self r) ⊛ raw (fact 𝓤 (r.now ≡ xs))))))) (id⊢ 𝓤 (k₁.post y₁ v)) $
+        use1 𝓛 (later (some (λ (r : MutBor (List X.Denot)). (raw toks ⊛ ‵ (Lent.own_val r (v ∷ []))) ⊛ some (λ (ws : Unit {0} × Unit {0}). ‵ (fsep ftrue ftrue) ⊛ (‵ (lends_entries (R X) self r) ⊛ raw (fact 𝓤 (r.now ≡ xs))))))) (id⊢ 𝓤 (k₁.post y₁ v)) $
         await ! tt $ pick ! (λ r. split ! $ split ! $ move ! (2 ∷ []) $ pick ! (λ ws. split ! $ drop ! $ split ! $ move ! (1 ∷ []) $ heard ! _ (λ same.
         -- [what the arena follows; the tokens; the slice; the nodes]
-        move ! (2 ∷ []) $ peeks ! Entries (Is Entries) (shows 𝓛 Entries) r (v ∷ []) (λ p.
+        move ! (2 ∷ []) $ peeks ! Lent (Is Lent) (shows 𝓛 Lent) r (v ∷ []) (λ p.
         let e : v ∷ [] ≡ mut_slice_vals r = mut_slice_Tells (named 0) κ (R X) r (v ∷ []) p in
         let y₂ : k₂.Ghost = (((κ, (κT, tt)), (q, (qT, tt)), bd, (r, (m, (n, tt))), (mut_slice_vals r, (node_vals m, (node_vals n, tt)))), tt) in
-        rewrite ! 0 (λ (us : List Val). ‵ (Entries.own_val r us)) e refl $
+        rewrite ! 0 (λ (us : List Val). ‵ (Lent.own_val r us)) e refl $
         lands_as ! (ap only e) refl (tt, (tt, (record { fits = p.0.1.0 }, tt))) $
         -- [the slice; what the arena follows; the tokens; the nodes]
         move ! (0 ∷ 3 ∷ []) $ fjoin ! $ move ! (2 ∷ 0 ∷ []) $ join ! $
@@ -187,9 +195,9 @@ module _ (X : RattleType) {M : Type 1} {𝓤 : Ura M} (𝓛 : Logic 𝓤) (𝓜 
         await ! tt $ pick ! (λ t. split ! $ split ! $ move ! (2 ∷ []) $ pick ! (λ ws. split ! $ drop ! $ split ! $ move ! (1 ∷ []) $ split ! $ heard ! _ (λ e₁. heard ! _ (λ e₂.
         -- [what the slice follows; the tokens; the two; what the arena follows]
         move ! (3 ∷ 0 ∷ []) $
-        use2 𝓛 (‵ (follows_both (A.the_row (R X)) (R X) (R X) γ t.0.ghost_name t.1.ghost_name (λ x y. refill (length xs) xs (set (set r.now m.0 x) n.0 y))))
-        (follows_then_both 𝓛 (A.the_row (R X)) (Array (R X) 0) (R X) (refill (length xs) xs) (λ x y. set (set r.now m.0 x) n.0 y) γ r.ghost_name t.0.ghost_name t.1.ghost_name) $
-        rewrite ! 0 (λ (K : X.Denot → X.Denot → List X.Denot). ‵ (follows_both (A.the_row (R X)) (R X) (R X) γ t.0.ghost_name t.1.ghost_name K)) (λ i x y. refill-set_twice xs r.now m.0 n.0 x y same i) refl $
+        use2 𝓛 (‵ (follows_both (A.the_row (R X)) (R X) (R X) γ t.0.ghost_name t.1.ghost_name (λ x y. holding (refill (length xs) xs (set (set r.now m.0 x) n.0 y)))))
+        (follows_then_both 𝓛 (A.the_row (R X)) (Array (R X) 0) (R X) (λ items. holding (refill (length xs) xs items)) (λ x y. set (set r.now m.0 x) n.0 y) γ r.ghost_name t.0.ghost_name t.1.ghost_name) $
+        rewrite ! 0 (λ (K : X.Denot → X.Denot → Entries X.Denot). ‵ (follows_both (A.the_row (R X)) (R X) (R X) γ t.0.ghost_name t.1.ghost_name K)) (λ i x y. holding (refill-set_twice xs r.now m.0 n.0 x y same i)) refl $
         -- [what the arena follows; the tokens; the two]
         move ! (2 ∷ []) $ peeks ! Two (Is Two) (shows 𝓛 Two) t (u ∷ []) (λ p'.
         let e' : u ∷ [] ≡ pair_vals t ∷ [] = Struct-Tells (shape (tuple_type (One ∷ One ∷ []))) (mut_vals, (mut_vals, tt)) (mut_Tells (named 0) κ (R X), (mut_Tells (named 0) κ (R X), tt)) (t.0, (t.1, tt)) (u ∷ []) p' in
@@ -206,7 +214,7 @@ module _ (X : RattleType) {M : Type 1} {𝓤 : Ura M} (𝓛 : Logic 𝓤) (𝓜 
       (walked 𝓛 (ended X) (stayed X) held (WpFn 𝓤 H 𝓣.C 𝓣.Λ (function X)) (λ κs. (mut_vals, (node_vals, (node_vals, tt))))
       (λ κs. (mut_Tells (named 0) κs.0 (A.the_row (R X)), (node_Tells, (node_Tells, tt))))
       (λ κs qs bounds a g are.
-      qed 𝓛 (raw (on_entry 𝓛 (ended X).signature κs qs a (mut_vals a.0, (node_vals a.1.0, (node_vals a.1.1.0, tt)))) ∷ raw (fact 𝓤 (κs.1.0 ⊑ X.lives)) ∷ raw (fact 𝓤 (a.1.0.0 < length a.0.now)) ∷ raw (fact 𝓤 (a.1.1.0.0 < length a.0.now)) ∷ raw (fact 𝓤 (a.1.0.0 ≢ a.1.1.0.0)) ∷ []) ∵
+      qed 𝓛 (raw (on_entry 𝓛 (ended X).signature κs qs a (mut_vals a.0, (node_vals a.1.0, (node_vals a.1.1.0, tt)))) ∷ raw (fact 𝓤 (κs.1.0 ⊑ X.lives)) ∷ raw (fact 𝓤 (a.1.0.0 < length a.0.now.items)) ∷ raw (fact 𝓤 (a.1.1.0.0 < length a.0.now.items)) ∷ raw (fact 𝓤 (a.1.0.0 ≢ a.1.1.0.0)) ∷ []) ∵
       move ! (1 ∷ []) $ heard ! _ (λ lt. move ! (1 ∷ []) $ heard ! _ (λ h₁. move ! (1 ∷ []) $ heard ! _ (λ h₂. move ! (1 ∷ []) $ heard ! _ (λ h₃.
       by ! (walk κs.0 κs.1.0 qs.0 qs.1.0 bounds a.0.ref_ptr.0 a.0.ref_ptr.1 a.0.ghost_name a.0.now a.1.0 a.1.1.0 lt h₁ h₂ h₃ are.1.0.1.1.0.1 are.1.1.0.1.1.0.1)))))))
 
