@@ -73,6 +73,23 @@ reads-shorter {h} {ts} {r} {d} is =
     let j = converted_some of_json (value h ts) d r (is.at h (omega arith)) in
     skip_value-shorter h ts r (ap left j.1)
 
+nothing : {A P : Type 0} (x : A) → None ≡ Some x → P
+nothing x e = cc
+
+-- no array ends where a value begins
+going : (h : ℕ) (ts r : List Token) (d : Data) → Reads h ts d r → after_end_array ts ≡ None
+going h [] r d is = refl
+going h (Token.begin_object ∷ ts) r d is = refl
+going h (Token.end_object ∷ ts) r d is = refl
+going h (Token.begin_array ∷ ts) r d is = refl
+going h (Token.end_array ∷ ts) r d is = nothing (d, r) (sym (ap (converted of_json) (value_is h (Token.end_array ∷ ts))) ∙ is.at h (omega arith))
+going h (Token.key s ∷ ts) r d is = refl
+going h (Token.string s ∷ ts) r d is = refl
+going h (Token.number s ∷ ts) r d is = refl
+going h (Token.boolean b ∷ ts) r d is = refl
+going h (Token.null ∷ ts) r d is = refl
+going h (Token.bad ∷ ts) r d is = refl
+
 -- ---- arrays
 
 pub reads-array : {h : ℕ} {ts r : List Token} {ds : List Data} → ReadsItems h ts ds r → Reads (suc h) (Token.begin_array ∷ ts) (array (items_of ds)) r
@@ -85,12 +102,12 @@ reads-array {h} {ts} {r} {ds} is = record {
 pub reads_items-end : (h : ℕ) {ts r : List Token} → after_end_array ts ≡ Some r → ReadsItems h ts [] r
 reads_items-end h {ts} {r} e = record { at = λ depth turns deep enough. ap (converted of_items) (items_end (value depth) turns ts r enough e) }
 
-pub reads_items-more : {h : ℕ} {ts r s : List Token} {d : Data} {ds : List Data} → after_end_array ts ≡ None → Reads h ts d r → ReadsItems h r ds s → ReadsItems h ts (d ∷ ds) s
-reads_items-more {h} {ts} {r} {s} {d} {ds} going first rest = record {
+pub reads_items-more : {h : ℕ} {ts r s : List Token} {d : Data} {ds : List Data} → Reads h ts d r → ReadsItems h r ds s → ReadsItems h ts (d ∷ ds) s
+reads_items-more {h} {ts} {r} {s} {d} {ds} first rest = record {
   at = λ depth turns deep enough.
       let less = reads-shorter first in
       let j = converted_some of_json (value depth ts) d r (first.at depth deep) in
-      ap (converted of_items) (items_more (value depth) turns ts r j.0 (omega arith) going j.1) ∙ converted-item j.0 d j.2 _
+      ap (converted of_items) (items_more (value depth) turns ts r j.0 (omega arith) (going h ts r d first) j.1) ∙ converted-item j.0 d j.2 _
       ∙ ap (parse_map (item d)) (rest.at depth (turns - 1) deep (omega arith));
 }
 

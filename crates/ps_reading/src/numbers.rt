@@ -1,5 +1,6 @@
 // The numbers that tokens write.
-ghost use Rattle.std.specs.Prelude.{◌≡◌, ◌<◌, Some, IsTrue, true, false, ◌==◌, length, slice_index, IfSome};
+ghost use Rattle.std.specs.Prelude.{◌≡◌, ◌<◌, Some, IsTrue, true, false, ◌==◌, length, slice_index, IfSome, FitsSigned};
+ghost use Rattle.std.specs.Int.{w64};
 ghost use Rattle.serde_json.specs.Data.{unsigned};
 ghost use Rattle.serde_json.specs.Find.{of_integer};
 ghost use Rattle.serde_json.specs.Read.{number_from, number_of};
@@ -26,7 +27,8 @@ fn unsigned_of(numeral: &Numeral<'_>) -> Option<u64>
 
 /// The whole number of 64 bits with a sign that a text writes.
 pub fn whole_number_of(text: &str) -> Option<i64>
-    ensures { IfSome result (λ z. number_of text.now ≡ Some (of_integer z)) }
+    ensures number { IfSome result (λ z. number_of text.now ≡ Some (of_integer z)) }
+    ensures in_range { IfSome result (FitsSigned w64) }
 {
     let bytes = text.as_bytes();
     if has_minus(bytes) {
@@ -37,7 +39,8 @@ pub fn whole_number_of(text: &str) -> Option<i64>
 }
 
 fn signed_of(numeral: &Numeral<'_>) -> Option<i64>
-    ensures { IfSome result (λ z. number_from false numeral.now ≡ Some (of_integer z)) }
+    ensures number { IfSome result (λ z. number_from false numeral.now ≡ Some (of_integer z)) }
+    ensures in_range { IfSome result (FitsSigned w64) }
 {
     match numeral.to_u64() {
         Some(n) if n <= i64::MAX as u64 => Some(n as i64),
@@ -46,7 +49,8 @@ fn signed_of(numeral: &Numeral<'_>) -> Option<i64>
 }
 
 fn negative_of(numeral: &Numeral<'_>) -> Option<i64>
-    ensures { IfSome result (λ z. number_from true numeral.now ≡ Some (of_integer z)) }
+    ensures number { IfSome result (λ z. number_from true numeral.now ≡ Some (of_integer z)) }
+    ensures in_range { IfSome result (FitsSigned w64) }
 {
     match numeral.to_i64(true) {
         Some(z) if z < 0 => Some(z),

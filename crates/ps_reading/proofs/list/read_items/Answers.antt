@@ -21,7 +21,7 @@ items-preserved g c =
     let first = subst (λ ts. Reads nests ts read.0 c.read_json.new.reader) going.1 read.2 in (
       i.0 ++ read.0 ∷ [],
       rw c.in_ok-push-in-Some.ensures.items (zip-push (g.T.ReadJson.is_json c.args.context.now) c.items.parts.items i.0 c.in-Some.part read.0 i.1 read.1),
-      λ more rest later. rw append_assoc (i.2 (read.0 ∷ more) rest (reads_items-more going.0 first later)),
+      λ more rest later. rw append_assoc (i.2 (read.0 ∷ more) rest (reads_items-more first later)),
     )
 
 pub returns : goal.returns

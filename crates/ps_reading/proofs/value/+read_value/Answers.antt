@@ -32,7 +32,7 @@ read_values-items-preserved t c = λ more rest later.
     let first = subst (λ ts. Reads c.args.depth ts (view v) c.read_value.new.reader) going.1 read in
     let found = c.items.found.items in
     let grown = ap (λ vs. map view vs ++ more) c.in_ok-push-in-Some.ensures.items ∙ map-push view found v more in
-    subst (λ ds. ReadsItems c.args.depth c.args.reader.now ds rest) (sym grown) (c.items.invariant (view v ∷ more) rest (reads_items-more going.0 first later))
+    subst (λ ds. ReadsItems c.args.depth c.args.reader.now ds rest) (sym grown) (c.items.invariant (view v ∷ more) rest (reads_items-more first later))
 
 pub read_values-returns : goal.read_values-returns
 read_values-returns t c =
