@@ -3,4 +3,6 @@
 
 pub mod list;
 pub mod numbers;
+#[cfg(test)]
+mod tests;
 pub mod value;
