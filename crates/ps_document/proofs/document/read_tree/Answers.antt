@@ -2,7 +2,7 @@ use Rattle.std.proofs.Common.{◌∙◌, subst, sym}
 use Rattle.std.proofs.lemmas.Option.{same_Some}
 use Rattle.serde_json.specs.View.{view}
 use Rattle.ps_document.specs.Document.{IsPlanJson}
-use Rattle.ps_document.proofs.document.read_document.Goals as goal
+use Rattle.ps_document.proofs.document.read_tree.Goals as goal
 
 pub returns-in-Ok-clause-json : goal.returns-in-Ok-clause-json
 returns-in-Ok-clause-json c = λ q.

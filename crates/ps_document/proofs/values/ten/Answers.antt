@@ -4,7 +4,7 @@ use Rattle.serde_json.specs.View.{view}
 use Rattle.ps_document.proofs.Lists.{list_length-map}
 use Rattle.ps_document.proofs.TenItems.{ten_items}
 use Rattle.ps_document.specs.Json.{list}
-use Rattle.ps_document.proofs.json.ten.Goals as goal
+use Rattle.ps_document.proofs.values.ten.Goals as goal
 
 pub returns-else-items-eq10-clause-none : goal.returns-else-items-eq10-clause-none
 returns-else-items-eq10-clause-none c = λ a b d f g h i j k l e. c.if-items-eq10.false (list_length-map view c.in_ok-items.items.now (a ∷ b ∷ d ∷ f ∷ g ∷ h ∷ i ∷ j ∷ k ∷ l ∷ []) (sym c.in_ok-items.ensures.some ∙ e))
