@@ -8,6 +8,8 @@ mod ToldTable
 mod TenItems
 mod Members
 mod NoPlan
+mod MembersFound
+mod ReadTable
 mod NoNode
 mod Taken
 pub mod OnePlan

@@ -6,3 +6,4 @@ pub mod Owning
 pub mod Expressions
 pub mod Nodes
 pub mod Document
+pub mod Found

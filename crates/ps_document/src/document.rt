@@ -1,14 +1,18 @@
 // Documents, read into arenas.
 ghost use Rattle.std.specs.Prelude.{◌≡◌, ◌≢◌, ◌↔◌, ℕ, List, IsTrue, Err, IfOk, IfSome, IfNone, codes};
+ghost use Rattle.std.specs.List.{AllZip};
 ghost use Rattle.serde_json.specs.Data.{Data, Members as JsonMembers, member, no_members, object};
 ghost use Rattle.serde_json.specs.View.{members_view, view};
 ghost use Rattle.ps_frame.specs.Tables.{Frame};
 ghost use Rattle.ps_plan.specs.Plans.{Plan};
 ghost use Rattle.ps_document.specs.Document.{IsDocument, IsDocumentOf, IsJson, IsPlanJson};
-ghost use Rattle.ps_document.specs.Json.{four_members};
+ghost use Rattle.ps_document.specs.Expressions.{entry_number};
+ghost use Rattle.ps_document.specs.Json.{four_members, list};
+ghost use Rattle.ps_document.specs.Tables.{IsTable};
 
-use crate::json::entry_of;
+use crate::found::read_off_tokens;
 use crate::taking::take_list;
+use crate::values::entry_of;
 use ps_frame::expr::AExpr;
 use ps_frame::frame::DataFrame;
 use ps_plan::ir::IR;
@@ -35,12 +39,27 @@ pub enum DocumentError {
     OutOfMemory,
 }
 
-/// Reads a document. The bytes are let go once their JSON stands, and the JSON on the way.
+/// Reads a document: off the tokens of its text, and where the document isn't told so, by way of the
+/// tree of its JSON. The bytes are let go once their tree stands, and the tree on the way.
 ///
 /// Each error but `OutOfMemory` comes only for its reason. A table of more than 2^32 - 1 rows is out
 /// of memory too.
 pub fn read_document(alloc: Global, bytes: Vec<u8>) -> Result<Document, DocumentError>
     ensures document { IfOk result (λ d. IsDocumentOf (record { nodes = d.nodes.items; exprs = d.exprs.items; root = d.root }) bytes.items) }
+    ensures bad_json { result ≡ Err DocumentError.BadJson → IsJson bytes.items → ⊥ }
+    ensures json { result ≡ Err DocumentError.BadDocument → IsJson bytes.items }
+    ensures bad_document { result ≡ Err DocumentError.BadDocument → IsDocument bytes.items → ⊥ }
+{
+    match read_off_tokens(alloc, bytes.as_slice()) {
+        Ok(Some(document)) => Ok(document),
+        Ok(None) => read_tree(alloc, bytes),
+        Err(_) => Err(DocumentError::OutOfMemory),
+    }
+}
+
+/// Reads a document by way of the tree of its JSON.
+fn read_tree(alloc: Global, bytes: Vec<u8>) -> Result<Document, DocumentError>
+    ensures document { IfOk result (λ d. IsDocumentOf (record { nodes = d.nodes; exprs = d.exprs; root = d.root }) bytes.items) }
     ensures bad_json { result ≡ Err DocumentError.BadJson → IsJson bytes.items → ⊥ }
     ensures json { result ≡ Err DocumentError.BadDocument → IsJson bytes.items }
     ensures bad_document { result ≡ Err DocumentError.BadDocument → IsDocument bytes.items → ⊥ }
@@ -99,6 +118,25 @@ fn plan_of(alloc: Global, members: Members) -> Result<Option<Document>, AllocErr
     let Some(tables) = take_list::<(), DataFrame>(alloc, &(), tables)? else {
         return Ok(None);
     };
+    let Some(document) = plan_over(alloc, tables, exprs, nodes, root)? else {
+        return Ok(None);
+    };
+    Ok(Some(document))
+}
+
+/// The plan of these expressions and nodes over these tables.
+///
+/// Fails only for want of memory.
+pub fn plan_over(
+    alloc: Global,
+    tables: Vec<DataFrame>,
+    exprs: Value,
+    nodes: Value,
+    root: Node,
+) -> Result<Option<Document>, AllocError>
+    ensures some { IfOk result (λ o. IfSome o (λ d. (ts : List Data) → AllZip IsTable tables.items ts → IsPlanJson tables.items (record { nodes = d.nodes; exprs = d.exprs; root = d.root }) (four_members (list ts) (view exprs) (view nodes) (entry_number root)))) }
+    ensures none { IfOk result (λ o. IfNone o ((ts : List Data) → AllZip IsTable tables.items ts → (frames : List Frame) (plan : Plan) → IsPlanJson frames plan (four_members (list ts) (view exprs) (view nodes) (entry_number root)) → ⊥)) }
+{
     let Some(exprs) = take_list::<(), AExpr>(alloc, &(), exprs)? else {
         return Ok(None);
     };

@@ -10,12 +10,12 @@ ghost use Rattle.ps_document.specs.Expressions.{CanStand, IsExpr, aggregate_json
 ghost use Rattle.ps_document.specs.Json.{list, text};
 ghost use Rattle.ps_document.specs.Owning.{is_plain};
 
-use crate::json::{
+use crate::parts::{FromJson, Plain, left_out_of, list_from};
+use crate::taking::TakeJson;
+use crate::values::{
     entry_of, four_after, is_text, one, one_after, short_number_of, text_of, three, three_after,
     truth_of, two, two_after, whole_number_of,
 };
-use crate::parts::{FromJson, Plain, left_out_of, list_from};
-use crate::taking::TakeJson;
 use crate::words::{function_of, kind_of, operator_of};
 use ps_frame::expr::{AExpr, FunctionExpr, IRAggExpr, LiteralValue, Operator, What};
 use ps_frame::value::DataType;

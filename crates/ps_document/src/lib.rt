@@ -1,9 +1,10 @@
 // Documents of tables and a plan: their JSON, and the arenas that they hold.
 #![tactic(auto)]
 
+mod cells;
 pub mod document;
 mod exprs;
-mod json;
+mod found;
 pub mod laws;
 mod nodes;
 mod options;
@@ -12,4 +13,5 @@ mod tables;
 mod taking;
 #[cfg(test)]
 mod tests;
+mod values;
 mod words;

@@ -13,13 +13,13 @@ ghost use Rattle.ps_document.specs.Json.{text, truth};
 ghost use Rattle.ps_document.specs.Owning.{is_listing_node, is_other_node, is_plain_node};
 ghost use Rattle.ps_document.specs.Words.{join_word, keep_word, validation_word};
 
-use crate::json::{
-    entry_of, five_after, nine_after, number_of, one_after, text_of, three_after, truth_of, two,
-    two_after, whole_number_of,
-};
 use crate::options::{cut_of, names_of, offset_of, suffix_of};
 use crate::parts::{FromJson, Key, Named, Plain, left_out_of, list_from};
 use crate::taking::TakeJson;
+use crate::values::{
+    entry_of, five_after, nine_after, number_of, one_after, text_of, three_after, truth_of, two,
+    two_after, whole_number_of,
+};
 use crate::words::{join_of, keep_of, sink_of, validation_of};
 use ps_frame::frame::DataFrame;
 use ps_plan::ir::{

@@ -5,8 +5,8 @@ ghost use Rattle.ps_plan.specs.Steps.{Cut};
 ghost use Rattle.ps_document.specs.Json.{count, or_null, text};
 ghost use Rattle.ps_document.specs.Nodes.{CutFits, OffsetFits, cut_json, names_json};
 
-use crate::json::{is_null, number_of, short_number_of, two, whole_number_of};
 use crate::parts::{FromJson, Plain, list_from};
+use crate::values::{is_null, number_of, short_number_of, two, whole_number_of};
 use ps_frame::items::Items;
 use pu_order::PlSmallStr;
 use serde_json::Value;

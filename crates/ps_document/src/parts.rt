@@ -5,7 +5,7 @@ ghost use Rattle.ps_frame.specs.Lines.{what_name};
 ghost use Rattle.ps_document.specs.Json.{list, list_of, text};
 ghost use Rattle.ps_document.specs.Words.{is_left_out_kind};
 
-use crate::json::{elements, entry_of, one_after, text_of, truth_of, two};
+use crate::values::{elements, entry_of, one_after, text_of, truth_of, two};
 use crate::words::left_out_kind_of;
 use ps_frame::expr::What;
 use ps_frame::items::Items;

@@ -10,8 +10,8 @@ ghost use Rattle.ps_document.specs.Json.{list, text};
 ghost use Rattle.ps_document.specs.Tables.{IsTable};
 ghost use Rattle.ps_document.specs.Words.{kind_word};
 
-use crate::json::{is_null, short_number_of, text_of, truth_of, whole_number_of};
 use crate::taking::{TakeJson, take_list};
+use crate::values::{is_null, short_number_of, text_of, truth_of, whole_number_of};
 use crate::words::kind_of;
 use ps_frame::column::Column;
 use ps_frame::error::FrameError;
@@ -167,7 +167,7 @@ fn apart(
 /// The table of columns, where no name stands twice and their lengths are equal.
 ///
 /// Fails only for want of memory, which more rows than a table counts also take.
-fn table_of(alloc: Global, columns: Vec<NamedColumn>) -> Result<Option<DataFrame>, AllocError>
+pub fn table_of(alloc: Global, columns: Vec<NamedColumn>) -> Result<Option<DataFrame>, AllocError>
     ensures some { IfOk result (λ o. IfSome o (λ f. (ds : List Data) → AllZip IsColumn columns.items ds → IsTable f (list ds))) }
     ensures none { IfOk result (λ o. IfNone o ((f : Frame) (ds : List Data) → AllZip IsColumn columns.items ds → IsTable f (list ds) → ⊥)) }
 {

@@ -159,3 +159,18 @@ fn members_are_just_the_four(rt: HostRuntime) -> Result<(), Fail> {
     assert_eq!(rt; verdict(alloc, r#"{"root":0"#)?, "bad JSON");
     Ok(())
 }
+
+#[test]
+fn members_stand_in_any_order_and_the_last_counts(rt: HostRuntime) -> Result<(), Fail> {
+    let ordered = r#"{"root":1,"nodes":[],"exprs":[],"tables":[]}"#;
+    let Ok(document) = read(rt.alloc(), ordered)? else {
+        return Err(Fail::from("no document"));
+    };
+    assert_eq!(rt; document.root.0, 1);
+    let twice = r#"{"root":1,"nodes":[],"exprs":[],"tables":[],"root":2}"#;
+    let Ok(document) = read(rt.alloc(), twice)? else {
+        return Err(Fail::from("no document"));
+    };
+    assert_eq!(rt; document.root.0, 2);
+    Ok(())
+}

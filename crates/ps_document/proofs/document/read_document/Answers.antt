@@ -1,17 +1,8 @@
-use Rattle.std.proofs.Common.{◌∙◌, subst, sym}
-use Rattle.std.proofs.lemmas.Option.{same_Some}
-use Rattle.serde_json.specs.View.{view}
-use Rattle.ps_document.specs.Document.{IsPlanJson}
+use Rattle.std.proofs.Common.{subst}
+use Rattle.ps_document.specs.Document.{IsDocumentOf}
 use Rattle.ps_document.proofs.document.read_document.Goals as goal
 
-pub returns-in-Ok-clause-json : goal.returns-in-Ok-clause-json
-returns-in-Ok-clause-json c = λ q.
-    let ok = rw c.as_slice.ensures.value at c.in-Ok.ensures.ok in
-    record { is_text = ok.0; json = view c.in-Ok.value; reads = ok.1 }
-
-pub returns-in-Ok-clause-bad_document : goal.returns-in-Ok-clause-bad_document
-returns-in-Ok-clause-bad_document c = λ q is.
-    let ok = rw c.as_slice.ensures.value at c.in-Ok.ensures.ok in
-    let d = is.is_document in
-    let same = same_Some d.json (view c.in-Ok.value) (sym d.reads ∙ ok.1) in
-    c.document_of.ensures.none q d.tables is.plan (subst (IsPlanJson d.tables is.plan) same d.is_plan)
+pub returns-in-Ok-Some-clause-document : goal.returns-in-Ok-Some-clause-document
+returns-in-Ok-Some-clause-document c =
+    let d = c.in-Ok-Some.document in
+    subst (IsDocumentOf (record { nodes = d.nodes; exprs = d.exprs; root = d.root })) c.as_slice.ensures.value (rw c.in-Ok-Some.field-0-is at c.in-Ok-Some.ensures)

@@ -1,7 +1,0 @@
-use Rattle.std.proofs.Common.{◌∷◌, [], ◌∙◌, sym}
-use Rattle.serde_json.specs.View.{view}
-use Rattle.ps_document.proofs.Lists.{list_length-map}
-use Rattle.ps_document.proofs.json.three.Goals as goal
-
-pub returns-else-items-eq3-clause-none : goal.returns-else-items-eq3-clause-none
-returns-else-items-eq3-clause-none c = λ a b d e. c.if-items-eq3.false (list_length-map view c.in_ok-items.items.now (a ∷ b ∷ d ∷ []) (sym c.in_ok-items.ensures.some ∙ e))

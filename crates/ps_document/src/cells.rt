@@ -1,0 +1,189 @@
+// The tables of a document, read off its tokens.
+ghost use Rattle.std.specs.Prelude.{◌≡◌, ◌∷◌, List, Some, IfOk, IfSome};
+ghost use Rattle.json.specs.Reads.{token_of};
+ghost use Rattle.json.specs.Token.{Token as SpecToken, begin_array, string};
+ghost use Rattle.serde_json.specs.Data.{Data, Num, number};
+ghost use Rattle.serde_json.specs.Read.{number_of};
+ghost use Rattle.ps_reading.specs.Reading.{Reads};
+ghost use Rattle.ps_document.specs.Tables.{IsCell};
+ghost use Rattle.ps_document.specs.Words.{kind_word};
+
+use crate::tables::{NamedColumn, table_of};
+use crate::words::kind_of;
+use json::{Reader, Token};
+use ps_frame::column::Column;
+use ps_frame::frame::DataFrame;
+use ps_frame::value::{DataType, Value};
+use ps_reading::list::{ReadJson, read_list};
+use ps_reading::numbers::{count_of, whole_number_of};
+use pu_order::PlSmallStr;
+use std::alloc::{AllocError, Global};
+
+/// The cells of a column of a kind.
+#[derive(Drop)]
+pub struct CellsOf(pub DataType);
+
+/// The columns of a table, and the tables.
+#[derive(Drop)]
+pub struct Tables;
+
+/// The cell that is one token, in a column of a kind.
+///
+/// Fails only for want of memory.
+fn cell_of(alloc: Global, dtype: DataType, token: Token<'_>) -> Result<Option<Value>, AllocError>
+    ensures { IfOk result (λ o. IfSome o (λ v. (d : Data) × IsCell dtype v d × ((ts : List SpecToken) → Reads 0 (token_of token.entry ∷ ts) d ts))) }
+{
+    match token {
+        Token::Null => Ok(Some(Value::Null)),
+        Token::Number(text) => {
+            let Some(cell) = number_cell(dtype, text) else {
+                return Ok(None);
+            };
+            Ok(Some(cell))
+        }
+        Token::Bool(b) => {
+            let DataType::Boolean = dtype else {
+                return Ok(None);
+            };
+            Ok(Some(Value::Boolean(b)))
+        }
+        Token::String(text) => {
+            let DataType::String = dtype else {
+                return Ok(None);
+            };
+            match PlSmallStr::from_str(alloc, text) {
+                Ok(text) => Ok(Some(Value::String(text))),
+                Err(_) => Err(AllocError),
+            }
+        }
+        _ => Ok(None),
+    }
+}
+
+/// The cell that a number is, in a column of a kind.
+fn number_cell(dtype: DataType, text: &str) -> Option<Value>
+    ensures { IfSome result (λ v. (n : Num) × (number_of text.now ≡ Some n) × IsCell dtype v (number n)) }
+{
+    match dtype {
+        DataType::Int64 => whole_number_cell(text),
+        DataType::IdxSize => row_number_cell(text),
+        _ => None,
+    }
+}
+
+fn whole_number_cell(text: &str) -> Option<Value>
+    ensures { IfSome result (λ v. (n : Num) × (number_of text.now ≡ Some n) × IsCell DataType.Int64 v (number n)) }
+{
+    let Some(z) = whole_number_of(text) else {
+        return None;
+    };
+    Some(Value::Int64(z))
+}
+
+fn row_number_cell(text: &str) -> Option<Value>
+    ensures { IfSome result (λ v. (n : Num) × (number_of text.now ≡ Some n) × IsCell DataType.IdxSize v (number n)) }
+{
+    match count_of(text) {
+        Some(n) if n <= u32::MAX as u64 => Some(Value::IdxSize(n as u32)),
+        _ => None,
+    }
+}
+
+impl ReadJson<CellsOf> for Value {
+    ghost use Rattle.ps_document.specs.Tables.{IsCell};
+
+    ghost is_json = { λ c v d. IsCell c.0 v d };
+
+    ghost nests = { 0 };
+
+    fn read_json(
+        alloc: Global,
+        cells: &CellsOf,
+        reader: &mut Reader<'_>,
+    ) -> Result<Option<Value>, AllocError> {
+        let Some(token) = reader.next() else {
+            return Ok(None);
+        };
+        let Some(cell) = cell_of(alloc, cells.0, token)? else {
+            return Ok(None);
+        };
+        Ok(Some(cell))
+    }
+}
+
+/// The name and the kind that a column begins with.
+///
+/// Fails only for want of memory.
+fn heading_of(
+    alloc: Global,
+    reader: &mut Reader<'_>,
+) -> Result<Option<(PlSmallStr, DataType)>, AllocError>
+    ensures { IfOk result (λ o. IfSome o (λ h. reader.old ≡ begin_array ∷ string h.0 ∷ string (kind_word h.1) ∷ reader.new)) }
+{
+    let Some(Token::BeginArray) = reader.next() else {
+        return Ok(None);
+    };
+    let Some(Token::String(name)) = reader.next() else {
+        return Ok(None);
+    };
+    let Some(Token::String(word)) = reader.next() else {
+        return Ok(None);
+    };
+    let Some(dtype) = kind_of(word) else {
+        return Ok(None);
+    };
+    match PlSmallStr::from_str(alloc, name) {
+        Ok(name) => Ok(Some((name, dtype))),
+        Err(_) => Err(AllocError),
+    }
+}
+
+impl ReadJson<Tables> for NamedColumn {
+    ghost use Rattle.ps_document.specs.Columns.{IsColumn};
+
+    ghost is_json = { λ _ c d. IsColumn c d };
+
+    ghost nests = { 2 };
+
+    fn read_json(
+        alloc: Global,
+        _context: &Tables,
+        reader: &mut Reader<'_>,
+    ) -> Result<Option<NamedColumn>, AllocError> {
+        let Some((name, dtype)) = heading_of(alloc, reader)? else {
+            return Ok(None);
+        };
+        let Some(values) = read_list::<CellsOf, Value>(alloc, &CellsOf(dtype), reader)? else {
+            return Ok(None);
+        };
+        if !reader.take_end_array() {
+            return Ok(None);
+        }
+        match Column::new(alloc, dtype, values) {
+            Ok(column) => Ok(Some(NamedColumn { name, column })),
+            Err(_) => Err(AllocError),
+        }
+    }
+}
+
+impl ReadJson<Tables> for DataFrame {
+    ghost use Rattle.ps_document.specs.Tables.{IsTable};
+
+    ghost is_json = { λ _ f d. IsTable f d };
+
+    ghost nests = { 3 };
+
+    fn read_json(
+        alloc: Global,
+        context: &Tables,
+        reader: &mut Reader<'_>,
+    ) -> Result<Option<DataFrame>, AllocError> {
+        let Some(columns) = read_list::<Tables, NamedColumn>(alloc, context, reader)? else {
+            return Ok(None);
+        };
+        let Some(df) = table_of(alloc, columns)? else {
+            return Ok(None);
+        };
+        Ok(Some(df))
+    }
+}

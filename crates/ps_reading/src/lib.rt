@@ -1,0 +1,8 @@
+// Parts of a JSON document, read off its tokens one after another with no tree between.
+#![tactic(auto)]
+
+pub mod list;
+pub mod numbers;
+#[cfg(test)]
+mod tests;
+pub mod value;

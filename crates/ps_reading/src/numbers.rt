@@ -1,0 +1,66 @@
+// The numbers that tokens write.
+ghost use Rattle.std.specs.Prelude.{◌≡◌, ◌<◌, Some, IsTrue, true, false, ◌==◌, length, slice_index, IfSome, FitsSigned};
+ghost use Rattle.std.specs.Int.{w64};
+ghost use Rattle.serde_json.specs.Data.{unsigned};
+ghost use Rattle.serde_json.specs.Find.{of_integer};
+ghost use Rattle.serde_json.specs.Read.{number_from, number_of};
+
+use fast_float::Numeral;
+
+/// The number of 64 bits that a text writes, where it writes one that isn't below 0.
+pub fn count_of(text: &str) -> Option<u64>
+    ensures { IfSome result (λ n. number_of text.now ≡ Some (unsigned n)) }
+{
+    let bytes = text.as_bytes();
+    if has_minus(bytes) {
+        None
+    } else {
+        unsigned_of(&Numeral::scan(bytes))
+    }
+}
+
+fn unsigned_of(numeral: &Numeral<'_>) -> Option<u64>
+    ensures { IfSome result (λ n. number_from false numeral.now ≡ Some (unsigned n)) }
+{
+    numeral.to_u64()
+}
+
+/// The whole number of 64 bits with a sign that a text writes.
+pub fn whole_number_of(text: &str) -> Option<i64>
+    ensures number { IfSome result (λ z. number_of text.now ≡ Some (of_integer z)) }
+    ensures in_range { IfSome result (FitsSigned w64) }
+{
+    let bytes = text.as_bytes();
+    if has_minus(bytes) {
+        negative_of(&Numeral::scan(&bytes[1..]))
+    } else {
+        signed_of(&Numeral::scan(bytes))
+    }
+}
+
+fn signed_of(numeral: &Numeral<'_>) -> Option<i64>
+    ensures number { IfSome result (λ z. number_from false numeral.now ≡ Some (of_integer z)) }
+    ensures in_range { IfSome result (FitsSigned w64) }
+{
+    match numeral.to_u64() {
+        Some(n) if n <= i64::MAX as u64 => Some(n as i64),
+        _ => None,
+    }
+}
+
+fn negative_of(numeral: &Numeral<'_>) -> Option<i64>
+    ensures number { IfSome result (λ z. number_from true numeral.now ≡ Some (of_integer z)) }
+    ensures in_range { IfSome result (FitsSigned w64) }
+{
+    match numeral.to_i64(true) {
+        Some(z) if z < 0 => Some(z),
+        _ => None,
+    }
+}
+
+fn has_minus(bytes: &[u8]) -> bool
+    ensures value { result ≡ (slice_index bytes.now 0 == 45) }
+    ensures len { IsTrue result → 0 < length bytes.now }
+{
+    !bytes.is_empty() && bytes[0] == b'-'
+}
