@@ -6,3 +6,4 @@ pub mod Numbers
 pub mod Places
 pub mod Texts
 pub mod SortKeys
+pub mod Turned

@@ -3,6 +3,7 @@
 
 pub mod aggregates;
 pub mod casts;
+mod leads;
 pub mod operators;
 pub mod order;
 pub mod selection;

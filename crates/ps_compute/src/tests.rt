@@ -226,6 +226,18 @@ fn rows_of_two_keys(alloc: Global) -> Result<Vec<usize>, FrameError> {
     sorted_rows(alloc, 6, keys.as_slice(), directions.as_slice())
 }
 
+// The rows of two keys of whole numbers, of which the first goes up, and the second down.
+fn rows_of_wholes(alloc: Global, far: i64) -> Result<Vec<usize>, FrameError> {
+    let mut keys = Vec::new(alloc);
+    keys.push(column(alloc, &[Some(2), Some(-1), Some(2), Some(-1), Some(2)])?)?;
+    keys.push(column(
+        alloc,
+        &[Some(-7), Some(-2147483648), Some(far), Some(far), Some(-7)],
+    )?)?;
+    let directions = directions_for(alloc, 2, &[false, true], &[false])?;
+    sorted_rows(alloc, 5, keys.as_slice(), directions.as_slice())
+}
+
 #[test]
 fn orders(rt: HostRuntime) -> Result<(), Fail> {
     let alloc = rt.alloc();
@@ -235,6 +247,8 @@ fn orders(rt: HostRuntime) -> Result<(), Fail> {
     let up = sorted_values(alloc, Direction::new(false, true), &values)?;
     assert!(rt; all_same(&up, &[int(1), int(2), int(3), Value::Null]));
     assert!(rt; rows_of_two_keys(alloc)?.as_slice() == [3, 5, 1, 0, 4, 2].as_slice());
+    assert!(rt; rows_of_wholes(alloc, 2147483647)?.as_slice() == [3, 1, 2, 0, 4].as_slice());
+    assert!(rt; rows_of_wholes(alloc, 9000000000)?.as_slice() == [3, 1, 2, 0, 4].as_slice());
     assert!(rt; directions_for(alloc, 3, &[true], &[false])?.len() == 3);
     Ok(())
 }
