@@ -18,7 +18,7 @@ fn comparison(
     column: &str,
     bound: LiteralValue,
 ) -> Result<(Arena<AExpr>, Node), Fail>
-    ensures { IfOk result (λ p. IsExpression p.0 p.1) }
+    ensures { IfOk result (λ p. IsExpression p.0.items p.1) }
 {
     let mut arena = Arena::new(alloc);
     let name = PlSmallStr::from_str(alloc, column)?;

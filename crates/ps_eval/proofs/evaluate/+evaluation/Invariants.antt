@@ -10,4 +10,4 @@ abbrev pub decreases-parts_of : goal.decreases-parts_of
 decreases-parts_of l = 2 * trees_size (trees_of (tree_at l.arena.now.items) l.exprs.now) + 1
 
 abbrev pub invariant-parts_of-loop-expr : goal.invariant-parts_of-loop-expr
-invariant-parts_of-loop-expr l = EvaluateAll l.df (trees_of (tree_at l.arena) (take l.expr-index l.exprs)) l.parts.items
+invariant-parts_of-loop-expr l = EvaluateAll l.df (trees_of (tree_at l.arena.items) (take l.expr-index l.exprs)) l.parts.items

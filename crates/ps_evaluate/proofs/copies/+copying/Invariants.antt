@@ -24,8 +24,8 @@ decreases-copy_aggregate l = 3 * tree_size (aggregate_tree (tree_at l.from.now.i
 abbrev pub invariant-copy_all-loop-expr : goal.invariant-copy_all-loop-expr
 invariant-copy_all-loop-expr l =
     record {
-      complete : AreComplete (trees_of (tree_at l.from) (drop l.expr-index l.exprs));
-      small : trees_size (trees_of (tree_at l.from) (drop l.expr-index l.exprs)) ≤ trees_size (trees_of (tree_at l.from) l.exprs);
-      trees : trees_of (tree_at l.into) l.copies.items ≡ trees_of (tree_at l.from) (take l.expr-index l.exprs);
-      kept : KeepsTrees l.initial.into l.into;
+      complete : AreComplete (trees_of (tree_at l.from.items) (drop l.expr-index l.exprs));
+      small : trees_size (trees_of (tree_at l.from.items) (drop l.expr-index l.exprs)) ≤ trees_size (trees_of (tree_at l.from.items) l.exprs);
+      trees : trees_of (tree_at l.into.items) l.copies.items ≡ trees_of (tree_at l.from.items) (take l.expr-index l.exprs);
+      kept : KeepsTrees l.initial.into.items l.into.items;
     }

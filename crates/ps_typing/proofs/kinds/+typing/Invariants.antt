@@ -15,10 +15,10 @@ decreases-type_keys g l = 2 * trees_size (trees_of (tree_at l.arena.now.items) l
 abbrev pub invariant-type_keys-loop-key : goal.invariant-type_keys-loop-key
 invariant-type_keys-loop-key g l =
     record {
-      complete : AreComplete (trees_of (tree_at l.arena) (drop l.key-index l.keys));
-      kinds : have_kinds l.schema (trees_of (tree_at l.arena) l.keys) ≡ have_kinds l.schema (trees_of (tree_at l.arena) (drop l.key-index l.keys));
-      scalar : are_scalar (trees_of (tree_at l.arena) l.keys) ≡ (l.all_scalar && are_scalar (trees_of (tree_at l.arena) (drop l.key-index l.keys)));
-      among : AreAmong (trees_parts (trees_of (tree_at l.arena) (drop l.key-index l.keys))) (trees_parts (trees_of (tree_at l.arena) l.keys));
-      small : trees_size (trees_of (tree_at l.arena) (drop l.key-index l.keys)) ≤ trees_size (trees_of (tree_at l.arena) l.keys);
-      steps : l.steps + trees_size (trees_of (tree_at l.arena) (drop l.key-index l.keys)) ≤ l.initial.steps + trees_size (trees_of (tree_at l.arena) l.keys);
+      complete : AreComplete (trees_of (tree_at l.arena.items) (drop l.key-index l.keys));
+      kinds : have_kinds l.schema (trees_of (tree_at l.arena.items) l.keys) ≡ have_kinds l.schema (trees_of (tree_at l.arena.items) (drop l.key-index l.keys));
+      scalar : are_scalar (trees_of (tree_at l.arena.items) l.keys) ≡ (l.all_scalar && are_scalar (trees_of (tree_at l.arena.items) (drop l.key-index l.keys)));
+      among : AreAmong (trees_parts (trees_of (tree_at l.arena.items) (drop l.key-index l.keys))) (trees_parts (trees_of (tree_at l.arena.items) l.keys));
+      small : trees_size (trees_of (tree_at l.arena.items) (drop l.key-index l.keys)) ≤ trees_size (trees_of (tree_at l.arena.items) l.keys);
+      steps : l.steps + trees_size (trees_of (tree_at l.arena.items) (drop l.key-index l.keys)) ≤ l.initial.steps + trees_size (trees_of (tree_at l.arena.items) l.keys);
     }

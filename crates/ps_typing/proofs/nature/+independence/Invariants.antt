@@ -15,11 +15,11 @@ decreases-independence_of_all g l = 2 * trees_size (trees_of (tree_at l.arena.no
 abbrev pub invariant-independence_of_all-loop-expr : goal.invariant-independence_of_all-loop-expr
 invariant-independence_of_all-loop-expr g l =
     record {
-      complete : AreComplete (trees_of (tree_at l.arena) (drop l.expr-index l.exprs));
-      independent : every_part_of_all reads_no_input (trees_of (tree_at l.arena) l.exprs)
-          ≡ (l.all.is_independent && every_part_of_all reads_no_input (trees_of (tree_at l.arena) (drop l.expr-index l.exprs)));
-      aggregates : list_any is_literal_aggregate (trees_parts (trees_of (tree_at l.arena) l.exprs))
-          ≡ (l.all.has_literal_aggregate || list_any is_literal_aggregate (trees_parts (trees_of (tree_at l.arena) (drop l.expr-index l.exprs))));
-      small : trees_size (trees_of (tree_at l.arena) (drop l.expr-index l.exprs)) ≤ trees_size (trees_of (tree_at l.arena) l.exprs);
-      steps : l.steps + trees_size (trees_of (tree_at l.arena) (drop l.expr-index l.exprs)) ≤ l.initial.steps + trees_size (trees_of (tree_at l.arena) l.exprs);
+      complete : AreComplete (trees_of (tree_at l.arena.items) (drop l.expr-index l.exprs));
+      independent : every_part_of_all reads_no_input (trees_of (tree_at l.arena.items) l.exprs)
+          ≡ (l.all.is_independent && every_part_of_all reads_no_input (trees_of (tree_at l.arena.items) (drop l.expr-index l.exprs)));
+      aggregates : list_any is_literal_aggregate (trees_parts (trees_of (tree_at l.arena.items) l.exprs))
+          ≡ (l.all.has_literal_aggregate || list_any is_literal_aggregate (trees_parts (trees_of (tree_at l.arena.items) (drop l.expr-index l.exprs))));
+      small : trees_size (trees_of (tree_at l.arena.items) (drop l.expr-index l.exprs)) ≤ trees_size (trees_of (tree_at l.arena.items) l.exprs);
+      steps : l.steps + trees_size (trees_of (tree_at l.arena.items) (drop l.expr-index l.exprs)) ≤ l.initial.steps + trees_size (trees_of (tree_at l.arena.items) l.exprs);
     }

@@ -12,7 +12,7 @@ decreases-is_independent l = 2 * tree_size (tree_at l.arena.now.items l.expr)
 abbrev pub invariant-are_independent-loop-expr : goal.invariant-are_independent-loop-expr
 invariant-are_independent-loop-expr l =
     record {
-      complete : AreComplete (trees_of (tree_at l.arena) (drop l.expr-index l.exprs));
-      left : every_part_of_all reads_no_input (trees_of (tree_at l.arena) l.exprs) ≡ every_part_of_all reads_no_input (trees_of (tree_at l.arena) (drop l.expr-index l.exprs));
-      small : trees_size (trees_of (tree_at l.arena) (drop l.expr-index l.exprs)) ≤ trees_size (trees_of (tree_at l.arena) l.exprs);
+      complete : AreComplete (trees_of (tree_at l.arena.items) (drop l.expr-index l.exprs));
+      left : every_part_of_all reads_no_input (trees_of (tree_at l.arena.items) l.exprs) ≡ every_part_of_all reads_no_input (trees_of (tree_at l.arena.items) (drop l.expr-index l.exprs));
+      small : trees_size (trees_of (tree_at l.arena.items) (drop l.expr-index l.exprs)) ≤ trees_size (trees_of (tree_at l.arena.items) l.exprs);
     }

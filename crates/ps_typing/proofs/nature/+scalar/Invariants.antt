@@ -12,7 +12,7 @@ decreases-is_scalar l = 2 * tree_size (tree_at l.arena.now.items l.expr)
 abbrev pub invariant-are_scalar-loop-expr : goal.invariant-are_scalar-loop-expr
 invariant-are_scalar-loop-expr l =
     record {
-      complete : AreComplete (trees_of (tree_at l.arena) (drop l.expr-index l.exprs));
-      left : are_scalar_trees (trees_of (tree_at l.arena) l.exprs) ≡ are_scalar_trees (trees_of (tree_at l.arena) (drop l.expr-index l.exprs));
-      small : trees_size (trees_of (tree_at l.arena) (drop l.expr-index l.exprs)) ≤ trees_size (trees_of (tree_at l.arena) l.exprs);
+      complete : AreComplete (trees_of (tree_at l.arena.items) (drop l.expr-index l.exprs));
+      left : are_scalar_trees (trees_of (tree_at l.arena.items) l.exprs) ≡ are_scalar_trees (trees_of (tree_at l.arena.items) (drop l.expr-index l.exprs));
+      small : trees_size (trees_of (tree_at l.arena.items) (drop l.expr-index l.exprs)) ≤ trees_size (trees_of (tree_at l.arena.items) l.exprs);
     }

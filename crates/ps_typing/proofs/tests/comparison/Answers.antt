@@ -4,5 +4,5 @@ use Rattle.ps_typing.proofs.tests.comparison.Goals as goal
 
 pub returns : goal.returns
 returns c =
-    comparison-is c.new-arena.result c.add.new.self c.add-2.new.self c.add-3.new.self c.in_ok-left.left c.in_ok-right.right c.in_ok-whole.whole c.in_ok-name.name c.args.bound op.Gt
+    comparison-is c.new-arena.result.items c.add.new.self.items c.add-2.new.self.items c.add-3.new.self.items c.in_ok-left.left c.in_ok-right.right c.in_ok-whole.whole c.in_ok-name.name c.args.bound op.Gt
     c.new-arena.ensures c.in_ok-left.ensures.number c.in_ok-left.ensures.added c.in_ok-right.ensures.number c.in_ok-right.ensures.added c.in_ok-whole.ensures.number c.in_ok-whole.ensures.added
