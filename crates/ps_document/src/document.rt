@@ -59,7 +59,7 @@ pub fn read_document(alloc: Global, bytes: Vec<u8>) -> Result<Document, Document
 
 /// Reads a document by way of the tree of its JSON.
 fn read_tree(alloc: Global, bytes: Vec<u8>) -> Result<Document, DocumentError>
-    ensures document { IfOk result (λ d. IsDocumentOf (record { nodes = d.nodes; exprs = d.exprs; root = d.root }) bytes.items) }
+    ensures document { IfOk result (λ d. IsDocumentOf (record { nodes = d.nodes.items; exprs = d.exprs.items; root = d.root }) bytes.items) }
     ensures bad_json { result ≡ Err DocumentError.BadJson → IsJson bytes.items → ⊥ }
     ensures json { result ≡ Err DocumentError.BadDocument → IsJson bytes.items }
     ensures bad_document { result ≡ Err DocumentError.BadDocument → IsDocument bytes.items → ⊥ }
@@ -134,7 +134,7 @@ pub fn plan_over(
     nodes: Value,
     root: Node,
 ) -> Result<Option<Document>, AllocError>
-    ensures some { IfOk result (λ o. IfSome o (λ d. (ts : List Data) → AllZip IsTable tables.items ts → IsPlanJson tables.items (record { nodes = d.nodes; exprs = d.exprs; root = d.root }) (four_members (list ts) (view exprs) (view nodes) (entry_number root)))) }
+    ensures some { IfOk result (λ o. IfSome o (λ d. (ts : List Data) → AllZip IsTable tables.items ts → IsPlanJson tables.items (record { nodes = d.nodes.items; exprs = d.exprs.items; root = d.root }) (four_members (list ts) (view exprs) (view nodes) (entry_number root)))) }
     ensures none { IfOk result (λ o. IfNone o ((ts : List Data) → AllZip IsTable tables.items ts → (frames : List Frame) (plan : Plan) → IsPlanJson frames plan (four_members (list ts) (view exprs) (view nodes) (entry_number root)) → ⊥)) }
 {
     let Some(exprs) = take_list::<(), AExpr>(alloc, &(), exprs)? else {

@@ -36,7 +36,7 @@ const MEMBER_DEPTH: usize = 126;
 ///
 /// `None` says nothing of the bytes. Fails only for want of memory.
 pub fn read_off_tokens(alloc: Global, bytes: &[u8]) -> Result<Option<Document>, AllocError>
-    ensures { IfOk result (λ o. IfSome o (λ d. IsDocumentOf (record { nodes = d.nodes; exprs = d.exprs; root = d.root }) bytes.now)) }
+    ensures { IfOk result (λ o. IfSome o (λ d. IsDocumentOf (record { nodes = d.nodes.items; exprs = d.exprs.items; root = d.root }) bytes.now)) }
 {
     let Ok(text) = simdutf8::basic::from_utf8(bytes) else {
         return Ok(None);

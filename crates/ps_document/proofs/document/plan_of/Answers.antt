@@ -29,5 +29,5 @@ returns-clause-some c =
     let t = rw c.in-Some-2.is at c.in_ok-tables.ensures.some in
     let members = ap (λ x. four_members x (view m.exprs) (view m.nodes) (view m.root)) t.1 ∙ ap (four_members (list t.0) (view m.exprs) (view m.nodes)) c.in-Some.ensures.some in (
       c.in-Some-2.tables.items,
-      subst (IsPlanJson c.in-Some-2.tables.items (record { nodes = d.nodes; exprs = d.exprs; root = d.root })) (sym members) ((rw c.in-Some-3.is at c.in_ok-document.ensures.some) t.0 t.2),
+      subst (IsPlanJson c.in-Some-2.tables.items (record { nodes = d.nodes.items; exprs = d.exprs.items; root = d.root })) (sym members) ((rw c.in-Some-3.is at c.in_ok-document.ensures.some) t.0 t.2),
     )

@@ -24,4 +24,4 @@ returns-clause-some c = λ ts zip.
     let n = rw c.in-Some-2.is at c.in_ok-nodes.ensures.some in
     let exprs = subst (λ xs. AllZip IsExpr xs e.0) (sym c.in_ok-exprs-2.ensures) e.2 in
     let nodes = subst (λ xs. AllZip (IsNode a.tables.items) xs n.0) (sym c.in_ok-nodes-2.ensures) n.2 in
-    read_plan (list ts) (view a.exprs) (view a.nodes) (entry_number a.root) a.tables.items ts c.in_ok-exprs-2.exprs e.0 c.in_ok-nodes-2.nodes n.0 a.root refl zip e.1 exprs n.1 nodes refl
+    read_plan (list ts) (view a.exprs) (view a.nodes) (entry_number a.root) a.tables.items ts c.in_ok-exprs-2.exprs.items e.0 c.in_ok-nodes-2.nodes.items n.0 a.root refl zip e.1 exprs n.1 nodes refl

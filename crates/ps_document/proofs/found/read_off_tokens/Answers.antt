@@ -22,5 +22,5 @@ returns c =
       json = object told.0;
       reads = subst (λ text. read text ≡ Some (object told.0)) c.in-Ok.ensures.0 told.2;
       tables = tables.items;
-      is_plan = subst (IsPlanJson tables.items (record { nodes = document.nodes; exprs = document.exprs; root = document.root })) (sym members) plan;
+      is_plan = subst (IsPlanJson tables.items (record { nodes = document.nodes.items; exprs = document.exprs.items; root = document.root })) (sym members) plan;
     }
