@@ -8,5 +8,5 @@ abbrev pub invariant-loop-expr : goal.invariant-loop-expr
 invariant-loop-expr l =
     record {
       named : named_trees (tree_at l.into.items) l.copies.items ≡ named_trees (tree_at l.from.items) (take l.expr-index l.exprs);
-      kept : KeepsTrees l.initial.into l.into.items;
+      kept : KeepsTrees l.initial.into.items l.into.items;
     }
