@@ -16,7 +16,7 @@ pub node_table-requires-clause-reached : goal.node_table-requires-clause-reached
 node_table-requires-clause-reached g t c =
     λ κs within.
     input-reached (plan_with c.args.valid.now c.args.exprs.now.items) c.args.node.0 c.get.result.now c.deref-input-items.result.now c.in_ok-inputs.inputs.items c.loop-input.input-index c.requires.reached
-    (entry-there c.args.valid.now.nodes c.ir.result.now c.args.node.0 c.get.result.now c.ir.ensures c.get.ensures) c.deref-input-items.ensures.value c.in_ok-inputs.ensures c.loop-input-test.true
+    (entry-there c.args.valid.now.nodes c.ir.result.now.items c.args.node.0 c.get.result.now c.ir.ensures c.get.ensures) c.deref-input-items.ensures.value c.in_ok-inputs.ensures c.loop-input-test.true
 
 pub loop-input-preserved : goal.loop-input-preserved
 loop-input-preserved g t c =
@@ -29,4 +29,4 @@ evaluate_node-requires-clause-inputs g t c =
     λ κs within.
     let F = functions_of (g.F.Functions.counted c.args.functions.now) g.F.Functions.streams g.F.Functions.answer g.F.Functions.declared in
     all-fit F (plan_with c.args.valid.now c.args.exprs.now.items) c.args.node.0 c.get.result.now c.as_slice.result.now c.loop-input.tables.items c.deref-input-items.result.now c.in_ok-inputs.inputs.items c.loop-input.input-index
-    (entry-there c.args.valid.now.nodes c.ir.result.now c.args.node.0 c.get.result.now c.ir.ensures c.get.ensures) c.as_slice.ensures.value c.deref-input-items.ensures.value c.in_ok-inputs.ensures c.loop-input-test.false c.loop-input.invariant
+    (entry-there c.args.valid.now.nodes c.ir.result.now.items c.args.node.0 c.get.result.now c.ir.ensures c.get.ensures) c.as_slice.ensures.value c.deref-input-items.ensures.value c.in_ok-inputs.ensures c.loop-input-test.false c.loop-input.invariant

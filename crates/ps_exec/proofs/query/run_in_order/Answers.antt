@@ -17,7 +17,7 @@ last_readers-requires-clause-inputs g c =
 
 pub last_readers-requires-clause-root : goal.last_readers-requires-clause-root
 last_readers-requires-clause-root g c =
-    subst (λ (r : Node). r.0 < length c.ir.result.now) (sym c.root.ensures) (subst (λ ns. c.args.valid.now.root.0 < length ns) (sym c.ir.ensures) (root-within (plan_with c.args.valid.now c.args.exprs.now.items) c.args.order.now c.requires.survey))
+    subst (λ (r : Node). r.0 < length c.ir.result.now.items) (sym c.root.ensures) (subst (λ ns. c.args.valid.now.root.0 < length ns) (sym c.ir.ensures) (root-within (plan_with c.args.valid.now c.args.exprs.now.items) c.args.order.now c.requires.survey))
 
 pub walk-requires-clause-size : goal.walk-requires-clause-size
 walk-requires-clause-size g c = λ κs lives. ap length c.as_slice.ensures.value ∙ c.in-Ok.ensures.size ∙ ap length c.ir.ensures
