@@ -6,5 +6,5 @@ use Rattle.plan_tool.proofs.answer.answer_to.Goals as goal
 
 pub returns-in-Err-clause-outcome : goal.returns-in-Err-clause-outcome
 returns-in-Err-clause-outcome g c =
-    plan-outcome (functions_of (g.F.Functions.counted c.args.functions.now) g.F.Functions.streams g.F.Functions.answer g.F.Functions.declared) (plan_of c.args.document.root c.args.document.nodes c.args.document.exprs) c.in-Err.error c.unanswered.result c.in-Err.ensures.error
+    plan-outcome (functions_of (g.F.Functions.counted c.args.functions.now) g.F.Functions.streams g.F.Functions.answer g.F.Functions.declared) (plan_of c.args.document.root c.args.document.nodes.items c.args.document.exprs.items) c.in-Err.error c.unanswered.result c.in-Err.ensures.error
     c.unanswered.ensures

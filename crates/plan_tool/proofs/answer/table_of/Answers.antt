@@ -9,7 +9,7 @@ use Rattle.plan_tool.proofs.answer.table_of.Goals as goal
 
 pub returns-clause-error : goal.returns-clause-error
 returns-clause-error g c =
-    let Q = IsQueryError (functions_of (g.F.Functions.counted c.args.functions.now) g.F.Functions.streams g.F.Functions.answer g.F.Functions.declared) (plan_of c.args.document.root c.args.document.nodes c.args.document.exprs) in
+    let Q = IsQueryError (functions_of (g.F.Functions.counted c.args.functions.now) g.F.Functions.streams g.F.Functions.answer g.F.Functions.declared) (plan_of c.args.document.root c.args.document.nodes.items c.args.document.exprs.items) in
     elim c.if-serial.branch [
       | then-serial w ↦ IfErr-at_err Q (sym w.answer-is ∙ c.in-Err.is) w.run_query_serial-answer.ensures.error
       | else-serial w ↦ IfErr-at_err Q (sym w.answer-is ∙ c.in-Err.is) w.run_query-answer.ensures.error
