@@ -78,7 +78,8 @@ impl<'a, T> Iterator for Chunks<'a, T> {
     fn size_hint(&self) -> (usize, Option<usize>)
         ensures lower { IsWithinCount result.0 (at_most (chunk_total (length (left self.now)) (size self.now))) }
         ensures upper { IfSome result.1 (UpTo (at_most (chunk_total (length (left self.now)) (size self.now)))) }
-        ensures exact { result ≡ (chunk_total (length (left self.now)) (size self.now), Some (chunk_total (length (left self.now)) (size self.now))) }
+        ensures count { result.0 ≡ chunk_total (length (left self.now)) (size self.now) }
+        ensures exact { result.1 ≡ Some result.0 }
     {
         let len = self.slice.len().div_ceil(self.chunk_size);
         (len, Some(len))
