@@ -61,7 +61,7 @@ impl Values {
     {
         let count = to.saturating_sub(from);
         match self {
-            Values::Shared(column) => Ok(Values::Shared(column_part(alloc, column, from, count)?)),
+            Values::Shared(column) => Ok(Values::Shared(shared_slice(alloc, column, from, count)?)),
             Values::Owned(values) => Ok(Values::Owned(copy_slice(
                 alloc,
                 values.as_slice(),
@@ -96,8 +96,8 @@ impl ValueList for Values {
     }
 }
 
-// A part of a column, which shares its values.
-fn column_part(
+// A slice of a column, which shares its values.
+fn shared_slice(
     alloc: Global,
     column: &Column,
     from: usize,
