@@ -1,9 +1,8 @@
 -- Sums and ends of lists of values.
-use Rattle.std.proofs.Common.{◌≡◌, ℕ, suc, ◌+◌, ◌-◌, ◌%◌, ◌^◌, ◌<◌, ℤ, pos, negsuc, ◌+ℤ◌, FitsSigned, List, [], ◌∷◌, ◌++◌, length, take, get_or, Bool, true, false, ltb, Option, Some, ◌⊎◌, refl, sym, ◌∙◌, ap, subst, arith}
+use Rattle.std.proofs.Common.{◌≡◌, ℕ, suc, ◌+◌, ◌-◌, ◌%◌, ◌^◌, ◌<◌, ℤ, pos, negsuc, ◌+ℤ◌, FitsSigned, List, [], ◌∷◌, ◌++◌, length, take, Bool, true, false, ltb, Option, Some, ◌⊎◌, refl, sym, ◌∙◌, ap, subst, arith}
 use Rattle.std.specs.Prelude.{slice_get}
 use Rattle.std.specs.Int.{cast_signed, cast_unsigned, int_wrap, w64}
 use Rattle.std.proofs.lemmas.Int.{SFits-int_wrap, int_wrap-add_left, ints, to_z-of_z}
-use Rattle.std.proofs.lemmas.List.{take_more}
 use mir.Val.{sel}
 use Rattle.ps_frame.specs.Aggregates.{last_value, number_of, sum_value, total}
 use Rattle.ps_frame.specs.Operators.{wrap_idx}
@@ -12,6 +11,7 @@ use Rattle.ps_frame.specs.declared.value.DataType.TheVariants as kind
 use Rattle.ps_frame.specs.declared.value.Value.{Value}
 use Rattle.ps_frame.specs.declared.value.Value.TheVariants as val
 use Rattle.ps_compute.specs.Nullable.{or_null}
+use Rattle.ps_compute.proofs.Listed.{take_at}
 
 -- ---- the last value
 
@@ -35,11 +35,10 @@ total-push : (vs : List Value) (v : Value) → total (vs ++ v ∷ []) ≡ total 
 total-push [] v = omega (arith, ints)
 total-push (w ∷ vs) v = let e = total-push vs v in omega (arith, ints)
 
-pub total-more : (vs : List Value) (i : ℕ) (v : Value) (s n r : ℤ) → i < length vs → v ≡ get_or vs i v → s ≡ int_wrap w64 (total (take i vs)) → n ≡ number_of v → FitsSigned w64 n
+pub total-more : (vs : List Value) (i : ℕ) (v : Value) (s n r : ℤ) → slice_get vs i ≡ Some v → s ≡ int_wrap w64 (total (take i vs)) → n ≡ number_of v → FitsSigned w64 n
     → r ≡ int_wrap w64 (s +ℤ cast_signed w64 (cast_unsigned w64 n)) → cast_signed w64 (cast_unsigned w64 r) ≡ int_wrap w64 (total (take (i + 1) vs))
-total-more vs i v s n r h at before is fits e =
-    let front : take (i + 1) vs ≡ take i vs ++ v ∷ [] = take_more vs i v h ∙ ap (λ x. take i vs ++ x ∷ []) (sym at) in
-    let sum : total (take (i + 1) vs) ≡ total (take i vs) +ℤ number_of v = ap total front ∙ total-push (take i vs) v in
+total-more vs i v s n r at before is fits e =
+    let sum : total (take (i + 1) vs) ≡ total (take i vs) +ℤ number_of v = ap total (take_at vs i v at) ∙ total-push (take i vs) v in
     let value : r ≡ int_wrap w64 (total (take (i + 1) vs)) =
     e ∙ ap (λ x. int_wrap w64 (s +ℤ x)) (to_z-of_z w64 n fits ∙ is) ∙ ap (λ x. int_wrap w64 (x +ℤ number_of v)) before
     ∙ int_wrap-add_left w64 (total (take i vs)) (number_of v) ∙ ap (int_wrap w64) (sym sum) in

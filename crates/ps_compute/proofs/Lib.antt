@@ -2,6 +2,7 @@ pub mod Aggregation
 pub mod Distinct
 pub mod KeyOrder
 pub mod Led
+pub mod Listed
 pub mod Numbers
 pub mod Places
 pub mod Texts

@@ -10,6 +10,7 @@ ghost use Rattle.ps_frame.specs.Sorting.{first_key};
 ghost use Rattle.ps_frame.specs.Values.{is_null as is_null_value, same_value};
 
 use crate::operators::{compare, int64_sum, is_null};
+use crate::values::ValueList;
 use ps_frame::error::FrameError;
 use ps_frame::value::{DataType, Value};
 use std::alloc::Global;
@@ -47,43 +48,52 @@ fn greater<'a>(value: &'a Value, best: Option<&'a Value>) -> Option<&'a Value>
 }
 
 /// The least value that isn't null; null or none where there is no such value.
-pub fn least(values: &[Value]) -> Option<&Value>
-    ensures { or_null (option_copied result) ≡ least_value values.now }
+pub fn least<L: ValueList>(values: &L) -> Option<&Value>
+    ensures { or_null (option_copied result) ≡ least_value (L.values values.now) }
 {
     let mut best = None;
     let mut from = values.len();
     while 0 < from {
         from -= 1;
-        best = lesser(&values[from], best);
+        best = lesser(values.value(from), best);
     }
     best
 }
 
 /// The greatest value that isn't null; null or none where there is no such value.
-pub fn greatest(values: &[Value]) -> Option<&Value>
-    ensures { or_null (option_copied result) ≡ greatest_value values.now }
+pub fn greatest<L: ValueList>(values: &L) -> Option<&Value>
+    ensures { or_null (option_copied result) ≡ greatest_value (L.values values.now) }
 {
     let mut best = None;
     let mut from = values.len();
     while 0 < from {
         from -= 1;
-        best = greater(&values[from], best);
+        best = greater(values.value(from), best);
     }
     best
 }
 
 /// The first value, and none where there is no value.
-pub fn first(values: &[Value]) -> Option<&Value>
-    ensures { or_null (option_copied result) ≡ first_key values.now }
+pub fn first<L: ValueList>(values: &L) -> Option<&Value>
+    ensures { or_null (option_copied result) ≡ first_key (L.values values.now) }
 {
-    values.first()
+    if values.len() == 0 {
+        None
+    } else {
+        Some(values.value(0))
+    }
 }
 
 /// The last value, and none where there is no value.
-pub fn last(values: &[Value]) -> Option<&Value>
-    ensures { or_null (option_copied result) ≡ last_value values.now }
+pub fn last<L: ValueList>(values: &L) -> Option<&Value>
+    ensures { or_null (option_copied result) ≡ last_value (L.values values.now) }
 {
-    values.last()
+    let count = values.len();
+    if count == 0 {
+        None
+    } else {
+        Some(values.value(count - 1))
+    }
 }
 
 /// An equal value, and null for none.
@@ -111,12 +121,12 @@ fn number(value: &Value) -> i64
     }
 }
 
-fn total(values: &[Value]) -> i64
-    ensures { result ≡ int_wrap w64 (exact_sum values.now) }
+fn total<L: ValueList>(values: &L) -> i64
+    ensures { result ≡ int_wrap w64 (exact_sum (L.values values.now)) }
 {
     let mut sum = 0;
-    for value in values {
-        sum = int64_sum(sum, number(value));
+    for i in 0..values.len() {
+        sum = int64_sum(sum, number(values.value(i)));
     }
     sum
 }
@@ -130,8 +140,8 @@ fn low_bits(number: i64) -> u32
 /// The sum of values of a kind, wrapped: of Int64 as an Int64, and of IdxSize and of truth values as an IdxSize.
 ///
 /// Null adds nothing, and the sum of nothing is 0.
-pub fn sum(dtype: DataType, values: &[Value]) -> Value
-    ensures { result ≡ sum_value (Some dtype) values.now }
+pub fn sum<L: ValueList>(dtype: DataType, values: &L) -> Value
+    ensures { result ≡ sum_value (Some dtype) (L.values values.now) }
 {
     let sum = total(values);
     match dtype {
@@ -141,17 +151,23 @@ pub fn sum(dtype: DataType, values: &[Value]) -> Value
 }
 
 /// How many values aren't null.
-pub fn count_not_null(values: &[Value]) -> usize
-    ensures { result ≡ length (filter (λ v. not (is_null_value v)) values.now) }
+pub fn count_not_null<L: ValueList>(values: &L) -> usize
+    ensures { result ≡ length (filter (λ v. not (is_null_value v)) (L.values values.now)) }
 {
-    values.iter().filter(|v| !is_null(v)).count()
+    let mut count = 0;
+    for i in 0..values.len() {
+        if !is_null(values.value(i)) {
+            count += 1;
+        }
+    }
+    count
 }
 
 /// How many values there are of which no two are the same; null is one value.
 ///
 /// Fails only for want of memory.
-pub fn count_distinct(alloc: Global, values: &[Value]) -> Result<usize, FrameError>
-    ensures count { IfOk result (λ n. n ≡ length (distinct_values values.now)) }
+pub fn count_distinct<L: ValueList>(alloc: Global, values: &L) -> Result<usize, FrameError>
+    ensures count { IfOk result (λ n. n ≡ length (distinct_values (L.values values.now))) }
     ensures memory { OnErr result (result ≡ Err FrameError.OutOfMemory) }
 {
     let mut sorted = references(alloc, values)?;
@@ -159,13 +175,13 @@ pub fn count_distinct(alloc: Global, values: &[Value]) -> Result<usize, FrameErr
     Ok(count_runs(sorted.as_slice()))
 }
 
-fn references(alloc: Global, values: &[Value]) -> Result<Vec<&Value>, FrameError>
-    ensures same { IfOk result (λ all. map (λ v. v.now) all.items ≡ values.now) }
+fn references<L: ValueList>(alloc: Global, values: &L) -> Result<Vec<&Value>, FrameError>
+    ensures same { IfOk result (λ all. map (λ v. v.now) all.items ≡ L.values values.now) }
     ensures memory { OnErr result (result ≡ Err FrameError.OutOfMemory) }
 {
     let mut all = Vec::with_capacity(alloc, values.len())?;
-    for value in values {
-        all.push(value)?;
+    for i in 0..values.len() {
+        all.push(values.value(i))?;
     }
     Ok(all)
 }

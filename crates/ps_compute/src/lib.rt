@@ -10,3 +10,4 @@ pub mod selection;
 pub mod sort_key;
 #[cfg(test)]
 mod tests;
+pub mod values;

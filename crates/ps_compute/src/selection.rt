@@ -4,6 +4,7 @@ ghost use Rattle.std.specs.List.{AllZip};
 ghost use Rattle.ps_frame.specs.Eval.{clipped, picked, picked_at, slice_start};
 ghost use Rattle.ps_frame.specs.Evaluated.{Holds};
 
+use crate::values::ValueList;
 use ps_frame::error::FrameError;
 use ps_frame::value::{Cell, DataFault, Value};
 use std::alloc::Global;
@@ -38,19 +39,23 @@ pub fn reversed(alloc: Global, values: &[Value]) -> Result<Vec<Value>, FrameErro
 /// not below the number of values.
 ///
 /// Fails only for want of memory.
-pub fn gathered(alloc: Global, values: &[Value], indices: &[Value]) -> Result<Vec<Cell>, FrameError>
-    ensures cells { IfOk result (λ cells. (node : ℕ) → AllZip Holds cells.items (map (picked node values.now) indices.now)) }
+pub fn gathered<V: ValueList, I: ValueList>(
+    alloc: Global,
+    values: &V,
+    indices: &I,
+) -> Result<Vec<Cell>, FrameError>
+    ensures cells { IfOk result (λ cells. (node : ℕ) → AllZip Holds cells.items (map (picked node (V.values values.now)) (I.values indices.now))) }
     ensures memory { OnErr result (result ≡ Err FrameError.OutOfMemory) }
 {
     let mut cells = Vec::with_capacity(alloc, indices.len())?;
-    for index in indices {
-        cells.push(pick(alloc, values, index)?)?;
+    for i in 0..indices.len() {
+        cells.push(pick(alloc, values, indices.value(i))?)?;
     }
     Ok(cells)
 }
 
-fn pick(alloc: Global, values: &[Value], index: &Value) -> Result<Cell, FrameError>
-    ensures cell { IfOk result (λ cell. (node : ℕ) → Holds cell (picked node values.now index.now)) }
+fn pick<V: ValueList>(alloc: Global, values: &V, index: &Value) -> Result<Cell, FrameError>
+    ensures cell { IfOk result (λ cell. (node : ℕ) → Holds cell (picked node (V.values values.now) index.now)) }
     ensures memory { OnErr result (result ≡ Err FrameError.OutOfMemory) }
 {
     match index {
@@ -63,12 +68,13 @@ fn pick(alloc: Global, values: &[Value], index: &Value) -> Result<Cell, FrameErr
     }
 }
 
-fn pick_at(alloc: Global, values: &[Value], place: usize) -> Result<Cell, FrameError>
-    ensures cell { IfOk result (λ cell. (node : ℕ) → Holds cell (picked_at node values.now place)) }
+#[tactic(auto, using(std::proofs::lemmas::Option::get_or_from_slice_get))]
+fn pick_at<V: ValueList>(alloc: Global, values: &V, place: usize) -> Result<Cell, FrameError>
+    ensures cell { IfOk result (λ cell. (node : ℕ) → Holds cell (picked_at node (V.values values.now) place)) }
     ensures memory { OnErr result (result ≡ Err FrameError.OutOfMemory) }
 {
     if place < values.len() {
-        Ok(Cell::Val(values[place].try_clone(alloc)?))
+        Ok(Cell::Val(values.value(place).try_clone(alloc)?))
     } else {
         Ok(Cell::Bad(DataFault::Gather))
     }

@@ -180,32 +180,40 @@ fn casts_of_numbers(rt: HostRuntime) -> Result<(), Fail> {
 #[test]
 fn aggregates(rt: HostRuntime) -> Result<(), Fail> {
     let alloc = rt.alloc();
-    let values = [int(3), Value::Null, int(1), int(3), Value::Null];
+    let values = vec![in alloc; int(3), Value::Null, int(1), int(3), Value::Null]?;
+    let nothing: Vec<Value> = Vec::new(alloc);
     assert!(rt; same(&copy_or_null(alloc, least(&values))?, &int(1)));
     assert!(rt; same(&copy_or_null(alloc, greatest(&values))?, &int(3)));
     assert!(rt; same(&copy_or_null(alloc, first(&values))?, &int(3)));
     assert!(rt; same(&copy_or_null(alloc, last(&values))?, &Value::Null));
-    assert!(rt; same(&copy_or_null(alloc, least(&values[..0]))?, &Value::Null));
-    assert!(rt; same(&sum(DataType::Int64, &values), &int(7)));
-    assert!(rt; same(&sum(DataType::Int64, &values[..0]), &int(0)));
-    assert!(rt;
-        same(
-            &sum(DataType::Int64, &[int(i64::MAX), int(2)]),
-            &int(i64::MIN + 1)
-        )
-    );
-    assert!(rt; same(&sum(DataType::IdxSize, &[idx(u32::MAX), idx(2)]), &idx(1)));
-    assert!(rt;
-        same(
-            &sum(
-                DataType::Boolean,
-                &[Value::Boolean(true), Value::Boolean(true)]
-            ),
-            &idx(2)
-        )
-    );
+    assert!(rt; same(&copy_or_null(alloc, least(&nothing))?, &Value::Null));
+    assert!(rt; same(&copy_or_null(alloc, last(&nothing))?, &Value::Null));
     assert!(rt; count_not_null(&values) == 3);
-    assert!(rt; count_distinct(alloc, &values)? == 3 && count_distinct(alloc, &values[..0])? == 0);
+    assert!(rt; count_distinct(alloc, &values)? == 3 && count_distinct(alloc, &nothing)? == 0);
+    Ok(())
+}
+
+#[test]
+fn sums(rt: HostRuntime) -> Result<(), Fail> {
+    let alloc = rt.alloc();
+    let nothing: Vec<Value> = Vec::new(alloc);
+    let large = vec![in alloc; int(i64::MAX), int(2)]?;
+    let counts = vec![in alloc; idx(u32::MAX), Value::Null, idx(2)]?;
+    let truths = vec![in alloc; Value::Boolean(true), Value::Boolean(true)]?;
+    assert!(rt; same(&sum(DataType::Int64, &nothing), &int(0)));
+    assert!(rt; same(&sum(DataType::Int64, &large), &int(i64::MIN + 1)));
+    assert!(rt; same(&sum(DataType::IdxSize, &counts), &idx(1)));
+    assert!(rt; same(&sum(DataType::Boolean, &truths), &idx(2)));
+    Ok(())
+}
+
+#[test]
+fn aggregates_of_a_picked_column(rt: HostRuntime) -> Result<(), Fail> {
+    let alloc = rt.alloc();
+    let threes = column(alloc, &[Some(3)])?.broadcast(alloc, 4)?;
+    assert!(rt; same(&sum(DataType::Int64, &threes), &int(12)));
+    assert!(rt; same(&copy_or_null(alloc, last(&threes))?, &int(3)));
+    assert!(rt; count_not_null(&threes) == 4 && count_distinct(alloc, &threes)? == 1);
     Ok(())
 }
 
@@ -241,10 +249,10 @@ fn rows_of_wholes(alloc: Global, far: i64) -> Result<Vec<usize>, FrameError> {
 #[test]
 fn orders(rt: HostRuntime) -> Result<(), Fail> {
     let alloc = rt.alloc();
-    let values = [int(2), Value::Null, int(3), int(1)];
-    let down = sorted_values(alloc, Direction::new(true, false), &values)?;
+    let values = vec![in alloc; int(2), Value::Null, int(3), int(1)]?;
+    let down = sorted_values(Direction::new(true, false), values)?;
     assert!(rt; all_same(&down, &[Value::Null, int(3), int(2), int(1)]));
-    let up = sorted_values(alloc, Direction::new(false, true), &values)?;
+    let up = sorted_values(Direction::new(false, true), down)?;
     assert!(rt; all_same(&up, &[int(1), int(2), int(3), Value::Null]));
     assert!(rt; rows_of_two_keys(alloc)?.as_slice() == [3, 5, 1, 0, 4, 2].as_slice());
     assert!(rt; rows_of_wholes(alloc, 2147483647)?.as_slice() == [3, 1, 2, 0, 4].as_slice());
@@ -270,15 +278,17 @@ fn is_value(cell: Option<&Cell>, wanted: &Value) -> bool {
 #[test]
 fn places(rt: HostRuntime) -> Result<(), Fail> {
     let alloc = rt.alloc();
-    let values = [int(5), Value::Null, int(6)];
-    let cells = gathered(
-        alloc,
-        &values,
-        &[idx(2), int(3), int(-1), Value::Null, int(1)],
-    )?;
+    let values = vec![in alloc; int(5), Value::Null, int(6)]?;
+    let indices = vec![in alloc; idx(2), int(3), int(-1), Value::Null, int(1)]?;
+    let cells = gathered(alloc, &values, &indices)?;
     assert!(rt; is_value(cells.get(0), &int(6)) && is_bad(cells.get(1)) && is_bad(cells.get(2)));
     assert!(rt; is_value(cells.get(3), &Value::Null) && is_value(cells.get(4), &Value::Null));
-    assert!(rt; all_same(&reversed(alloc, &values)?, &[int(6), Value::Null, int(5)]));
+    assert!(rt;
+        all_same(
+            &reversed(alloc, values.as_slice())?,
+            &[int(6), Value::Null, int(5)]
+        )
+    );
     assert!(rt; slice_bounds(3, i64::MIN, i64::MAX) == (0, 2));
     assert!(rt; slice_bounds(3, -2, 1) == (1, 2) && slice_bounds(3, 1, i64::MAX) == (1, 3));
     assert!(rt; slice_bounds(3, 5, 1) == (3, 3) && slice_bounds(0, -1, 1) == (0, 0));

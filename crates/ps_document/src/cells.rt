@@ -1,16 +1,19 @@
 // The tables of a document, read off its tokens.
 ghost use Rattle.std.specs.Prelude.{◌≡◌, ◌∷◌, List, Some, IfOk, IfSome};
+ghost use Rattle.std.specs.List.{AllZip};
 ghost use Rattle.json.specs.Reads.{token_of};
 ghost use Rattle.json.specs.Token.{Token as SpecToken, begin_array, string};
 ghost use Rattle.serde_json.specs.Data.{Data, Num, number};
 ghost use Rattle.serde_json.specs.Read.{number_of};
-ghost use Rattle.ps_reading.specs.Reading.{Reads};
+ghost use Rattle.ps_reading.specs.Reading.{Reads, ReadsItems};
+ghost use Rattle.ps_document.specs.Json.{list};
 ghost use Rattle.ps_document.specs.Tables.{IsCell};
 ghost use Rattle.ps_document.specs.Words.{kind_word};
 
 use crate::tables::{NamedColumn, table_of};
 use crate::words::kind_of;
 use json::{Reader, Token};
+use ps_frame::builder::ColumnBuilder;
 use ps_frame::column::Column;
 use ps_frame::frame::DataFrame;
 use ps_frame::value::{DataType, Value};
@@ -18,10 +21,6 @@ use ps_reading::list::{ReadJson, read_list};
 use ps_reading::numbers::{count_of, whole_number_of};
 use pu_order::PlSmallStr;
 use std::alloc::{AllocError, Global};
-
-/// The cells of a column of a kind.
-#[derive(Drop)]
-pub struct CellsOf(pub DataType);
 
 /// The columns of a table, and the tables.
 #[derive(Drop)]
@@ -89,25 +88,69 @@ fn row_number_cell(text: &str) -> Option<Value>
     }
 }
 
-impl ReadJson<CellsOf> for Value {
-    ghost use Rattle.ps_document.specs.Tables.{IsCell};
+/// The cell that comes first, in a column of a kind.
+///
+/// `None` where no such cell is told from the tokens; where the reader then stands isn't said.
+/// Fails only for want of memory.
+fn read_cell(
+    alloc: Global,
+    dtype: DataType,
+    reader: &mut Reader<'_>,
+) -> Result<Option<Value>, AllocError>
+    ensures { IfOk result (λ o. IfSome o (λ v. (d : Data) × IsCell dtype v d × Reads 0 reader.old d reader.new)) }
+{
+    let Some(token) = reader.next() else {
+        return Ok(None);
+    };
+    let Some(cell) = cell_of(alloc, dtype, token)? else {
+        return Ok(None);
+    };
+    Ok(Some(cell))
+}
 
-    ghost is_json = { λ c v d. IsCell c.0 v d };
+/// The column of a kind whose cells an array holds.
+///
+/// `None` where no such array is told from the tokens; where the reader then stands isn't said.
+/// Fails only for want of memory.
+fn read_column(
+    alloc: Global,
+    dtype: DataType,
+    reader: &mut Reader<'_>,
+) -> Result<Option<Column>, AllocError>
+    ensures kind { IfOk result (λ o. IfSome o (λ c. c.kind ≡ dtype)) }
+    ensures cells { IfOk result (λ o. IfSome o (λ c. (ds : List Data) × AllZip (IsCell dtype) c.values ds × Reads 1 reader.old (list ds) reader.new)) }
+{
+    let Some(Token::BeginArray) = reader.next() else {
+        return Ok(None);
+    };
+    let Some(column) = read_cells(alloc, dtype, reader)? else {
+        return Ok(None);
+    };
+    Ok(Some(column))
+}
 
-    ghost nests = { 0 };
-
-    fn read_json(
-        alloc: Global,
-        cells: &CellsOf,
-        reader: &mut Reader<'_>,
-    ) -> Result<Option<Value>, AllocError> {
-        let Some(token) = reader.next() else {
+// The column of the cells up to the bracket that closes their array. Each is pushed as it is read.
+fn read_cells(
+    alloc: Global,
+    dtype: DataType,
+    reader: &mut Reader<'_>,
+) -> Result<Option<Column>, AllocError>
+    ensures kind { IfOk result (λ o. IfSome o (λ c. c.kind ≡ dtype)) }
+    ensures cells { IfOk result (λ o. IfSome o (λ c. (ds : List Data) × AllZip (IsCell dtype) c.values ds × ReadsItems 0 reader.old ds reader.new)) }
+{
+    let mut builder = ColumnBuilder::new(alloc, dtype);
+    'cells: while !reader.take_end_array() {
+        let Some(cell) = read_cell(alloc, dtype, reader)? else {
             return Ok(None);
         };
-        let Some(cell) = cell_of(alloc, cells.0, token)? else {
-            return Ok(None);
-        };
-        Ok(Some(cell))
+        match builder.push(alloc, cell) {
+            Ok(()) => {}
+            Err(_) => return Err(AllocError),
+        }
+    }
+    match builder.finish(alloc) {
+        Ok(column) => Ok(Some(column)),
+        Err(_) => Err(AllocError),
     }
 }
 
@@ -153,16 +196,13 @@ impl ReadJson<Tables> for NamedColumn {
         let Some((name, dtype)) = heading_of(alloc, reader)? else {
             return Ok(None);
         };
-        let Some(values) = read_list::<CellsOf, Value>(alloc, &CellsOf(dtype), reader)? else {
+        let Some(column) = read_column(alloc, dtype, reader)? else {
             return Ok(None);
         };
         if !reader.take_end_array() {
             return Ok(None);
         }
-        match Column::new(alloc, dtype, values) {
-            Ok(column) => Ok(Some(NamedColumn { name, column })),
-            Err(_) => Err(AllocError),
-        }
+        Ok(Some(NamedColumn { name, column }))
     }
 }
 

@@ -18,7 +18,7 @@ use Rattle.ps_frame.specs.declared.value.Value.TheVariants as val
 
 -- the values that are held
 abbrev pub values_of : Values → List Value
-values_of (vals.Shared run) = run
+values_of (vals.Shared c) = c.values
 values_of (vals.Owned v) = v.items
 
 -- the cells that are held

@@ -1,13 +1,13 @@
 // Aggregates of whole columns.
 ghost use Rattle.std.specs.Prelude.{◌≡◌, ◌∷◌, [], ℕ, IfOk, Some, filter, if◌then◌else◌, length, not, option_copied};
 ghost use Rattle.ps_compute.specs.Nullable.{or_null};
-ghost use Rattle.ps_eval.specs.Held.{Keeps};
+ghost use Rattle.ps_eval.specs.Held.{Keeps, values_of};
 ghost use Rattle.ps_eval.specs.Wholes.{IsOfWhole, aggregated_kind, aggregated_of, aggregates, aggregation_of, summed_kind};
 ghost use Rattle.ps_frame.specs.Aggregates.{aggregate_column};
 ghost use Rattle.ps_frame.specs.Causes.{whole_column};
 ghost use Rattle.ps_frame.specs.Values.{is_null};
 
-use crate::part::{Part, ended_part};
+use crate::part::{Part, Values, ended_part};
 use crate::sources::{count_part, one_part};
 use ps_compute::aggregates::{
     copy_or_null, count_distinct, count_not_null, first, greatest, last, least, sum,
@@ -42,7 +42,7 @@ pub fn aggregated_part(alloc: Global, aggregate: IRAggExpr, input: Part) -> Resu
     let dtype = input.dtype;
     let outcome = input.settled(alloc)?;
     match outcome {
-        Ok(values) => aggregate_of(alloc, aggregate, dtype, values.as_slice()),
+        Ok(values) => aggregate_of(alloc, aggregate, dtype, &values),
         Err(fault) => Ok(ended_part(alloc, kind_of(aggregate, dtype), fault)),
     }
 }
@@ -70,10 +70,10 @@ fn aggregate_of(
     alloc: Global,
     aggregate: IRAggExpr,
     dtype: DataType,
-    values: &[Value],
+    values: &Values,
 ) -> Result<Part, AllocError>
     ensures kind { IfOk result (λ part. part.dtype ≡ aggregated_kind (aggregation_of aggregate) dtype) }
-    ensures cells { IfOk result (λ part. (node : ℕ) → Keeps part (aggregate_column node (aggregation_of aggregate) (Some dtype) values.now)) }
+    ensures cells { IfOk result (λ part. (node : ℕ) → Keeps part (aggregate_column node (aggregation_of aggregate) (Some dtype) (values_of values.now))) }
 {
     match aggregate {
         IRAggExpr::Min(_) => chosen_part(alloc, dtype, least(values)),
@@ -89,8 +89,8 @@ fn aggregate_of(
     }
 }
 
-fn counted(values: &[Value], all: bool) -> usize
-    ensures { result ≡ length (if all then values.now else filter (λ v. not (is_null v)) values.now) }
+fn counted(values: &Values, all: bool) -> usize
+    ensures { result ≡ length (if all then values_of values.now else filter (λ v. not (is_null v)) (values_of values.now)) }
 {
     if all {
         values.len()

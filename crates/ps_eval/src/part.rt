@@ -1,5 +1,5 @@
 // The column of an expression while it is computed.
-ghost use Rattle.std.specs.Prelude.{◌≡◌, ◌<◌, drop, take, ◌++◌, ◌∷◌, [], length, get_or, map, IfOk, OnOk, MatchResult, Some, None};
+ghost use Rattle.std.specs.Prelude.{◌≡◌, ◌<◌, drop, take, ◌++◌, ◌∷◌, [], length, get_or, map, option_copied, slice_get, IfOk, OnOk, MatchResult, Some, None};
 ghost use Rattle.ps_eval.specs.Held.{Keeps, Settles, cell_at, cells_of, ending_of, first_bad, first_fault, held_values, values_of};
 ghost use Rattle.ps_eval.specs.Rows.{repeats as repeats_in, seen as seen_cell};
 ghost use Rattle.ps_frame.specs.Causes.{whole_column};
@@ -8,33 +8,49 @@ ghost use Rattle.ps_frame.specs.declared.value.Cell.TheVariants as held;
 
 use crate::growing::as_cells;
 use crate::lengths::Ending;
-use ps_frame::run::Run;
+use ps_compute::values::ValueList;
+use ps_frame::column::Column;
 use ps_frame::value::{Cell, DataFault, DataType, Value};
 use std::alloc::{AllocError, Global};
 
-/// Values: those of a run, which are shared, or some of their own.
+/// Values: those of a column, which are shared, or some of their own.
 #[derive(Drop)]
 pub enum Values {
-    Shared(Run<Value>),
+    Shared(Column),
     Owned(Vec<Value>),
 }
 
 impl Values {
-    /// The values, in order.
-    pub fn as_slice(&self) -> &[Value]
-        ensures { result.now ≡ values_of self.now }
-    {
-        match self {
-            Values::Shared(run) => run.as_slice(),
-            Values::Owned(values) => values.as_slice(),
-        }
-    }
-
     /// How many values there are.
     pub fn len(&self) -> usize
         ensures { result ≡ length (values_of self.now) }
     {
-        self.as_slice().len()
+        match self {
+            Values::Shared(column) => column.len(),
+            Values::Owned(values) => values.len(),
+        }
+    }
+
+    /// The value at a place.
+    pub fn value(&self, i: usize) -> &Value
+        requires { i < length (values_of self.now) }
+        ensures { slice_get (values_of self.now) i ≡ Some result.now }
+    {
+        match self {
+            Values::Shared(column) => column.value(i),
+            Values::Owned(values) => &values[i],
+        }
+    }
+
+    /// The first value, if there is one.
+    pub fn first(&self) -> Option<&Value>
+        ensures { option_copied result ≡ slice_get (values_of self.now) 0 }
+    {
+        if self.len() == 0 {
+            None
+        } else {
+            Some(self.value(0))
+        }
     }
 
     /// The values from a place on, up to another one; shared ones stay shared.
@@ -45,7 +61,7 @@ impl Values {
     {
         let count = to.saturating_sub(from);
         match self {
-            Values::Shared(run) => Ok(Values::Shared(run.slice(from, count)?)),
+            Values::Shared(column) => Ok(Values::Shared(shared_slice(alloc, column, from, count)?)),
             Values::Owned(values) => Ok(Values::Owned(copy_slice(
                 alloc,
                 values.as_slice(),
@@ -56,14 +72,55 @@ impl Values {
     }
 
     /// Values of their own; shared ones are copied.
+    ///
+    /// Fails only for want of memory.
     pub fn into_vec(self, alloc: Global) -> Result<Vec<Value>, AllocError>
         ensures { IfOk result (λ values. values.items ≡ values_of self) }
     {
         match self {
-            Values::Shared(run) => copy_all(alloc, run.as_slice()),
+            Values::Shared(column) => column_values(alloc, &column),
             Values::Owned(values) => Ok(values),
         }
     }
+}
+
+impl ValueList for Values {
+    ghost values = { values_of };
+
+    fn len(&self) -> usize {
+        self.len()
+    }
+
+    fn value(&self, i: usize) -> &Value {
+        self.value(i)
+    }
+}
+
+// A slice of a column, which shares its values.
+fn shared_slice(
+    alloc: Global,
+    column: &Column,
+    from: usize,
+    count: usize,
+) -> Result<Column, AllocError>
+    ensures { IfOk result (λ part. part.values ≡ take count (drop from column.now.values)) }
+{
+    match column.slice(alloc, from, count) {
+        Ok(part) => Ok(part),
+        Err(_) => Err(AllocError),
+    }
+}
+
+// Equal values to those of a column.
+#[tactic(auto, using(ps_compute::proofs::Listed::take_at))]
+fn column_values(alloc: Global, column: &Column) -> Result<Vec<Value>, AllocError>
+    ensures { IfOk result (λ copies. copies.items ≡ column.now.values) }
+{
+    let mut copies = Vec::with_capacity(alloc, column.len())?;
+    for i in 0..column.len() {
+        copies.push(copy_of(alloc, column.value(i))?)?;
+    }
+    Ok(copies)
 }
 
 fn copy_slice(
@@ -138,12 +195,13 @@ impl Cells {
     }
 
     /// The value of the cell at a place, or its fault.
+    #[tactic(auto, using(crate::proofs::Parts::cell_of_value))]
     pub fn cell(&self, i: usize) -> Result<&Value, DataFault>
         requires { i < length (cells_of self.now) }
         ensures { seen_cell result ≡ cell_at (cells_of self.now) i }
     {
         match self {
-            Cells::Whole(values) => Ok(&values.as_slice()[i]),
+            Cells::Whole(values) => Ok(values.value(i)),
             Cells::Mixed(cells) => seen(&cells[i]),
         }
     }

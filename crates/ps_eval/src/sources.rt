@@ -18,8 +18,7 @@ use ps_frame::value::{DataFault, DataType, Value};
 use pu_order::PlSmallStr;
 use std::alloc::{AllocError, Global};
 
-/// The column of a name, which stands in the table. Its values are shared where they lie one after
-/// another.
+/// The column of a name, which stands in the table. Its values are shared.
 pub fn column_part(alloc: Global, name: &PlSmallStr, df: &DataFrame) -> Result<Part, AllocError>
     requires { IsSome (field_kind name.now df.now.schema) }
     ensures { IfOk result (Evaluates df.now (ATree.column name.now)) }
@@ -34,11 +33,10 @@ fn shared_part(alloc: Global, column: &Column) -> Result<Part, AllocError>
     ensures kind { IfOk result (λ part. part.dtype ≡ column.now.kind) }
     ensures cells { IfOk result (λ part. Keeps part (whole_column column.now.values)) }
 {
-    let dtype = column.dtype();
-    match column.run(alloc) {
-        Ok(run) => Ok(Part {
-            dtype,
-            cells: Cells::Whole(Values::Shared(run)),
+    match column.share(alloc) {
+        Ok(column) => Ok(Part {
+            dtype: column.dtype(),
+            cells: Cells::Whole(Values::Shared(column)),
             fault: None,
         }),
         Err(_) => Err(AllocError),

@@ -19,7 +19,7 @@ fn numbers(alloc: Global) -> Result<Part, AllocError> {
 
 fn first_int(part: &Part) -> Option<i64> {
     match &part.cells {
-        Cells::Whole(values) => match values.as_slice().first() {
+        Cells::Whole(values) => match values.first() {
             Some(Value::Int64(z)) => Some(*z),
             _ => None,
         },
@@ -29,7 +29,7 @@ fn first_int(part: &Part) -> Option<i64> {
 
 fn first_count(part: &Part) -> Option<u32> {
     match &part.cells {
-        Cells::Whole(values) => match values.as_slice().first() {
+        Cells::Whole(values) => match values.first() {
             Some(Value::IdxSize(n)) => Some(*n),
             _ => None,
         },

@@ -83,7 +83,7 @@ fn sorted_whole(
     ensures kind { IfOk result (λ part. part.dtype ≡ dtype) }
     ensures cells { IfOk result (λ part. Keeps part (whole_column (values_in_order direction (values_of values)))) }
 {
-    match sorted_values(alloc, direction, values.as_slice()) {
+    match sorted_values(direction, values.into_vec(alloc)?) {
         Ok(values) => Ok(whole_part(dtype, values)),
         Err(_) => Err(AllocError),
     }
@@ -105,7 +105,7 @@ pub fn gathered_part(alloc: Global, input: Part, indices: Part) -> Result<Part, 
     };
     let indices = indices.settled(alloc)?;
     match indices {
-        Ok(places) => gathered_cells(alloc, dtype, values.as_slice(), places.as_slice()),
+        Ok(places) => gathered_cells(alloc, dtype, &values, &places),
         Err(fault) => Ok(ended_part(alloc, dtype, fault)),
     }
 }
@@ -113,11 +113,11 @@ pub fn gathered_part(alloc: Global, input: Part, indices: Part) -> Result<Part, 
 fn gathered_cells(
     alloc: Global,
     dtype: DataType,
-    values: &[Value],
-    indices: &[Value],
+    values: &Values,
+    indices: &Values,
 ) -> Result<Part, AllocError>
     ensures kind { IfOk result (λ part. part.dtype ≡ dtype) }
-    ensures cells { IfOk result (λ part. (node : ℕ) → Keeps part (picked_column node values.now indices.now)) }
+    ensures cells { IfOk result (λ part. (node : ℕ) → Keeps part (picked_column node (values_of values.now) (values_of indices.now))) }
 {
     match gathered(alloc, values, indices) {
         Ok(cells) => Ok(Part {
@@ -156,8 +156,8 @@ pub fn sliced_part(
     let length = length.settled(alloc)?;
     match length {
         Ok(lengths) => {
-            let from = number_in(offsets.as_slice());
-            let count = number_in(lengths.as_slice());
+            let from = number_in(&offsets);
+            let count = number_in(&lengths);
             sliced_values(alloc, dtype, &values, from, count)
         }
         Err(fault) => Ok(ended_part(alloc, dtype, fault)),
@@ -165,8 +165,8 @@ pub fn sliced_part(
 }
 
 // The first value, if it is an `Int64`.
-fn number_in(values: &[Value]) -> Option<i64>
-    ensures { result ≡ int_of (at 0 values.now) }
+fn number_in(values: &Values) -> Option<i64>
+    ensures { result ≡ int_of (at 0 (values_of values.now)) }
 {
     match values.first() {
         Some(Value::Int64(z)) => Some(*z),

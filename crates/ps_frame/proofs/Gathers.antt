@@ -168,7 +168,7 @@ below_suc zero = refl
 below_suc (suc n) = ap (λ ns. ns ++ suc n ∷ []) (below_suc n) ∙ ap (λ ns. 0 ∷ ns) (sym (map-append suc (below n) (n ∷ [])))
 
 -- what stands at each place of a list is the list
-below-places : {A : Type 0} (xs : List A) (d : A) → map (λ i. get_or xs i d) (below (length xs)) ≡ xs
+pub below-places : {A : Type 0} (xs : List A) (d : A) → map (λ i. get_or xs i d) (below (length xs)) ≡ xs
 below-places [] d = refl
 below-places (x ∷ xs) d =
     ap (map (λ i. get_or (x ∷ xs) i d)) (below_suc (length xs))

@@ -10,3 +10,4 @@ pub mod Broadcasts
 pub mod SmallCases
 pub mod NamePlaces
 pub mod Gathers
+pub mod Packing

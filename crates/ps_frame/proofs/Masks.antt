@@ -1,7 +1,9 @@
 -- What a mask keeps.
 use Rattle.std.proofs.Common.{◌≡◌, ℕ, zero, suc, ◌+◌, ◌<◌, ◌≤◌, List, [], ◌∷◌, ◌++◌, length, take, get_or, Bool, true, false, refl, sym, ◌∙◌, ap, arith, add-one, append-nil}
-use Rattle.std.specs.Prelude.{count_by, if◌then◌else◌}
+use Rattle.std.specs.Prelude.{count_by, if◌then◌else◌, slice_get, Some}
 use Rattle.std.proofs.lemmas.List.Recursion.{is_count_by}
+use Rattle.std.proofs.lemmas.List.Sums.{count_by_more_no, count_by_more_yes}
+use Rattle.std.proofs.lemmas.Option.{get_or_from_slice_get, slice_get_within}
 use Rattle.ps_frame.specs.Frames.{kept}
 use Rattle.ps_frame.specs.Values.{is_true}
 use Rattle.ps_frame.specs.declared.value.Value.{Value}
@@ -88,3 +90,14 @@ kept-each (m ∷ ms) (x ∷ xs) e h =
 
 pub kept-all : {A : Type 0} (ms : List Value) (xs : List A) → count_by is_true ms ≡ length ms → length ms ≡ length xs → kept ms xs ≡ xs
 kept-all ms xs e h = kept-each ms xs (trues-is ms ∙ e) h
+
+-- one more true value, or none
+pub count-step_true : (vs : List Value) (i n : ℕ) (v : Value) → n ≡ count_by is_true (take i vs) → slice_get vs i ≡ Some v → is_true v ≡ true → n + 1 ≡ count_by is_true (take (i + 1) vs)
+count-step_true vs i n v before here holds =
+    let is = get_or_from_slice_get vs i v v here in
+    ap (λ k. k + 1) before ∙ sym (count_by_more_yes is_true vs i v (slice_get_within vs i v here) (ap is_true is ∙ holds))
+
+pub count-step_false : (vs : List Value) (i n : ℕ) (v : Value) → n ≡ count_by is_true (take i vs) → slice_get vs i ≡ Some v → is_true v ≡ false → n ≡ count_by is_true (take (i + 1) vs)
+count-step_false vs i n v before here fails =
+    let is = get_or_from_slice_get vs i v v here in
+    before ∙ sym (count_by_more_no is_true vs i v (slice_get_within vs i v here) (ap is_true is ∙ fails))

@@ -1,6 +1,7 @@
 // Tables, expressions and their meaning.
 #![tactic(auto)]
 
+pub mod builder;
 pub mod column;
 pub mod error;
 pub mod examples;
@@ -8,8 +9,10 @@ pub mod expr;
 mod fields;
 pub mod frame;
 pub mod functions;
+mod guesses;
 pub mod items;
 pub mod laws;
+mod packed;
 pub mod refusal;
 pub mod run;
 pub mod schema;

@@ -1,4 +1,5 @@
 // Tables as a caller makes them.
+use crate::builder::ColumnBuilder;
 use crate::column::Column;
 use crate::error::FrameError;
 use crate::expr::What;
@@ -244,5 +245,85 @@ fn a_copy_of_a_shared_schema_grows_alone(rt: HostRuntime) -> Result<(), Fail> {
     copy.push(rt.alloc(), text(rt.alloc(), "b")?, DataType::String)?;
     assert_eq!(rt; copy.len(), 2);
     assert_eq!(rt; shared.len(), 1);
+    Ok(())
+}
+
+// The numbers from 0 on, each its rest by `among`, and a null behind each five of them.
+fn repeating(alloc: Global, count: u32, among: u32) -> Result<Column, FrameError> {
+    let mut builder = ColumnBuilder::new(alloc, DataType::IdxSize);
+    for i in 0..count {
+        let rest = i.checked_rem(among).unwrap_or(0);
+        builder.push(alloc, Value::IdxSize(rest))?;
+        if i % 5 == 4 {
+            builder.push(alloc, Value::Null)?;
+        }
+    }
+    builder.finish(alloc)
+}
+
+fn has_index(column: &Column, i: usize, index: Option<u32>) -> bool {
+    if i >= column.len() {
+        return false;
+    }
+    match column.value(i) {
+        Value::IdxSize(found) => index == Some(*found),
+        Value::Null => index.is_none(),
+        _ => false,
+    }
+}
+
+fn twice(alloc: Global, column: &Column) -> Result<Column, FrameError> {
+    column.append(alloc, column)
+}
+
+#[test]
+fn few_values_stand_in_many_cells(rt: HostRuntime) -> Result<(), Fail> {
+    let column = repeating(rt.alloc(), 2000, 7)?;
+    assert_eq!(rt; column.len(), 2400);
+    assert!(rt; has_index(&column, 0, Some(0)) && has_index(&column, 5, None));
+    assert!(rt; has_index(&column, 6, Some(5)) && has_index(&column, 2398, Some(4)));
+    let both = twice(rt.alloc(), &column)?;
+    assert_eq!(rt; both.len(), 4800);
+    assert!(rt; has_index(&both, 2405, None) && has_index(&both, 4798, Some(4)));
+    let picked = value_and_null(rt.alloc(), &both, 4798)?;
+    assert!(rt; has_index(&picked, 0, Some(4)) && has_index(&picked, 1, None));
+    Ok(())
+}
+
+#[test]
+fn many_values_stand_in_as_many_cells(rt: HostRuntime) -> Result<(), Fail> {
+    let column = repeating(rt.alloc(), 10000, 6000)?;
+    assert_eq!(rt; column.len(), 12000);
+    assert!(rt; has_index(&column, 1, Some(1)) && has_index(&column, 5999, None));
+    assert!(rt; has_index(&column, 7198, Some(5999)) && has_index(&column, 7200, Some(0)));
+    assert!(rt; has_index(&column, 11998, Some(3999)));
+    Ok(())
+}
+
+fn push_text(alloc: Global, builder: &mut ColumnBuilder, word: &str) -> Result<(), FrameError> {
+    builder.push(alloc, Value::String(text(alloc, word)?))
+}
+
+fn has_text(column: &Column, i: usize, word: &str) -> bool {
+    if i >= column.len() {
+        return false;
+    }
+    match column.value(i) {
+        Value::String(found) => found.eq_str(word),
+        _ => false,
+    }
+}
+
+#[test]
+fn a_builder_refuses_another_kind(rt: HostRuntime) -> Result<(), Fail> {
+    let mut builder = ColumnBuilder::new(rt.alloc(), DataType::String);
+    push_text(rt.alloc(), &mut builder, "few")?;
+    push_text(rt.alloc(), &mut builder, "words")?;
+    let refused = builder.push(rt.alloc(), Value::Int64(1));
+    assert!(rt; matches!(refused, Err(FrameError::Kind)));
+    push_text(rt.alloc(), &mut builder, "few")?;
+    let column = builder.finish(rt.alloc())?;
+    assert_eq!(rt; column.len(), 3);
+    assert!(rt; has_text(&column, 1, "words") && has_text(&column, 2, "few"));
     Ok(())
 }

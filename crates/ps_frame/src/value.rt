@@ -47,7 +47,7 @@ pub struct Evaluated {
     pub broken: Vec<DataFault>,
 }
 
-ghost use Rattle.std.specs.Prelude.{◌≡◌, IfOk, OnErr, Err};
+ghost use Rattle.std.specs.Prelude.{◌≡◌, ◌↔◌, IfOk, IsTrue, OnErr, Err};
 ghost use Rattle.ps_frame.specs.Values.{fits_kind, is_true as is_true_value};
 ghost use Rattle.ps_frame.specs.Typed.{all_fit};
 
@@ -75,6 +75,31 @@ impl Value {
         match self {
             Value::Boolean(b) => *b,
             _ => false,
+        }
+    }
+
+    /// Whether this is the same value as another; null is the same as null.
+    pub fn same(&self, other: &Value) -> bool
+        ensures { IsTrue result ↔ (self.now ≡ other.now) }
+    {
+        match self {
+            Value::Null => matches!(other, Value::Null),
+            Value::Boolean(a) => match other {
+                Value::Boolean(b) => a == b,
+                _ => false,
+            },
+            Value::Int64(a) => match other {
+                Value::Int64(b) => a == b,
+                _ => false,
+            },
+            Value::IdxSize(a) => match other {
+                Value::IdxSize(b) => a == b,
+                _ => false,
+            },
+            Value::String(a) => match other {
+                Value::String(b) => a.eq_str(b.as_str()),
+                _ => false,
+            },
         }
     }
 

@@ -1,6 +1,7 @@
 // The columns of aggregates: a value for each group.
 ghost use Rattle.std.specs.Prelude.{◌≡◌, ◌<◌, ◌≤◌, ℕ, IfErr, IfOk, IsSome, Some, get_or, length, map};
 ghost use Rattle.std.specs.List.{All, AllByRecursion, AllZip};
+ghost use Rattle.ps_eval.specs.Held.{values_of};
 ghost use Rattle.ps_frame.specs.Frames.{HasKinds, kinds_of};
 ghost use Rattle.ps_frame.specs.Lawful.{FitsFrame};
 ghost use Rattle.ps_frame.specs.Tables.{Frame};
@@ -13,7 +14,7 @@ ghost use Rattle.ps_plan.specs.Steps.{key_trees};
 
 use crate::tables::GroupTables;
 use ps_eval::evaluate::part_of;
-use ps_eval::part::{Part, copy_of};
+use ps_eval::part::{Part, Values, copy_of};
 use ps_frame::column::Column;
 use ps_frame::expr::AExpr;
 use ps_frame::frame::DataFrame;
@@ -120,13 +121,13 @@ fn first_value(alloc: Global, part: Part) -> Result<Result<Value, DataFault>, Al
     ensures { IfOk result (GivesFirst part) }
 {
     match part.settled(alloc)? {
-        Ok(values) => Ok(Ok(first_of(alloc, values.as_slice())?)),
+        Ok(values) => Ok(Ok(first_of(alloc, &values)?)),
         Err(fault) => Ok(Err(fault)),
     }
 }
 
-fn first_of(alloc: Global, values: &[Value]) -> Result<Value, AllocError>
-    ensures { IfOk result (λ value. value ≡ get_or values.now 0 val.Null) }
+fn first_of(alloc: Global, values: &Values) -> Result<Value, AllocError>
+    ensures { IfOk result (λ value. value ≡ get_or (values_of values.now) 0 val.Null) }
 {
     match values.first() {
         Some(value) => copy_of(alloc, value),

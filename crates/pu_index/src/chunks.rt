@@ -1,6 +1,7 @@
 // The chunks of a slice.
-ghost use Rattle.std.specs.Prelude.{◌≡◌, ℕ, ◌+◌, ◌-◌, ◌*◌, ◌/◌, ◌<◌, ◌≤◌, ◌++◌, length, drop, min, MatchOption};
-ghost use Rattle.std.specs.Iterator.{at_most};
+ghost use Rattle.std.specs.Prelude.{◌≡◌, ℕ, ◌+◌, ◌-◌, ◌*◌, ◌/◌, ◌<◌, ◌≤◌, ◌++◌, length, drop, min, MatchOption, IfSome, Some};
+ghost use Rattle.std.specs.Iterator.{at_most, UpTo};
+ghost use Rattle.std.specs.Iterator.SizeHint.{IsWithinCount};
 ghost use Rattle.pu_index.specs.ChunkSteps.{chunk_total, chunk_steps, chunk_steps_back};
 
 use std::iter::{DoubleEndedIterator, ExactSizeIterator};
@@ -74,7 +75,12 @@ impl<'a, T> Iterator for Chunks<'a, T> {
         Some(item)
     }
 
-    fn size_hint(&self) -> (usize, Option<usize>) {
+    fn size_hint(&self) -> (usize, Option<usize>)
+        ensures lower { IsWithinCount result.0 (at_most (chunk_total (length (left self.now)) (size self.now))) }
+        ensures upper { IfSome result.1 (UpTo (at_most (chunk_total (length (left self.now)) (size self.now)))) }
+        ensures count { result.0 ≡ chunk_total (length (left self.now)) (size self.now) }
+        ensures exact { result.1 ≡ Some result.0 }
+    {
         let len = self.slice.len().div_ceil(self.chunk_size);
         (len, Some(len))
     }

@@ -5,7 +5,7 @@ use Rattle.ps_compute.specs.Nullable.{or_null}
 use Rattle.ps_compute.proofs.aggregates.greatest.Given as goal
 
 abbrev pub invariant-loop-from : goal.invariant-loop-from
-invariant-loop-from l = record { within : l.from ≤ length l.values; best : or_null (option_copied l.best) ≡ greatest_value (drop l.from l.values) }
+invariant-loop-from g l = record { within : l.from ≤ length (g.L.ValueList.values l.values); best : or_null (option_copied l.best) ≡ greatest_value (drop l.from (g.L.ValueList.values l.values)) }
 
 abbrev pub decreases-loop-from : goal.decreases-loop-from
-decreases-loop-from l = l.from
+decreases-loop-from g l = l.from

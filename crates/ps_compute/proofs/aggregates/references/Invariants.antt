@@ -1,5 +1,5 @@
 use Rattle.std.proofs.Common.{◌≡◌, map, take}
 use Rattle.ps_compute.proofs.aggregates.references.Given as goal
 
-abbrev pub invariant-loop-value : goal.invariant-loop-value
-invariant-loop-value l = map (λ v. v.now) l.all.items ≡ take l.value-index l.values
+abbrev pub invariant-loop-i : goal.invariant-loop-i
+invariant-loop-i g l = map (λ v. v.now) l.all.items ≡ take l.i (g.L.ValueList.values l.values)

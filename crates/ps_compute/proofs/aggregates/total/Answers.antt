@@ -1,10 +1,9 @@
-use Rattle.std.proofs.Common.{FitsSigned, rules, ◌<◌, length, arith}
+use Rattle.std.proofs.Common.{FitsSigned, rules}
 use Rattle.std.specs.Int.{w64}
 use Rattle.ps_compute.proofs.Aggregation.{total-more}
 use Rattle.ps_compute.proofs.aggregates.total.Goals as goal
 
-pub loop-value-preserved : goal.loop-value-preserved
-loop-value-preserved c =
+pub loop-i-preserved : goal.loop-i-preserved
+loop-i-preserved g c =
     let fits : FitsSigned w64 c.number.result = search rules in
-    let h : c.loop-value.value-index < length c.args.values.now = omega arith in
-    total-more c.args.values.now c.loop-value.value-index c.value-item.result _ c.number.result c.int64_sum-sum.result h c.value-item.is c.loop-value.invariant c.number.ensures fits c.int64_sum-sum.ensures
+    total-more (g.L.ValueList.values c.args.values.now) c.loop-i.i c.value.result.now _ c.number.result c.int64_sum-sum.result c.value.ensures c.loop-i.invariant c.number.ensures fits c.int64_sum-sum.ensures

@@ -4,5 +4,5 @@ use Rattle.ps_frame.specs.Eval.{picked}
 use Rattle.ps_frame.specs.Evaluated.{Holds}
 use Rattle.ps_compute.proofs.selection.gathered.Given as goal
 
-abbrev pub invariant-loop-index : goal.invariant-loop-index
-invariant-loop-index l = (node : ℕ) → AllZip Holds l.cells.items (map (picked node l.values) (take l.index-index l.indices))
+abbrev pub invariant-loop-i : goal.invariant-loop-i
+invariant-loop-i g l = (node : ℕ) → AllZip Holds l.cells.items (map (picked node (g.V.ValueList.values l.values)) (take l.i (g.I.ValueList.values l.indices)))

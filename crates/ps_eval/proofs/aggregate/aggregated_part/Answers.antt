@@ -1,7 +1,3 @@
-use Rattle.std.proofs.Common.{subst}
-use Rattle.std.specs.Prelude.{Some}
-use Rattle.ps_eval.specs.Held.{Keeps}
-use Rattle.ps_frame.specs.Aggregates.{aggregate_column}
 use Rattle.std.proofs.lemmas.Result.{IfOk-weaker}
 use Rattle.ps_eval.specs.Wholes.{aggregates, aggregation_of}
 use Rattle.ps_eval.proofs.WholeOperands.{settled-err, settled-ok}
@@ -10,8 +6,7 @@ use Rattle.ps_eval.proofs.aggregate.aggregated_part.Goals as goal
 pub returns-in-Ok-clause-cells : goal.returns-in-Ok-clause-cells
 returns-in-Ok-clause-cells c =
     IfOk-weaker c.aggregate_of.result _ _
-    (λ q kept node. settled-ok (aggregates node (aggregation_of c.args.aggregate) c.args.input.dtype) c.args.input q _ c.in-Ok.values c.in_ok-outcome.ensures c.in-Ok.is
-    (subst (λ vs. Keeps q (aggregate_column node (aggregation_of c.args.aggregate) (Some c.args.input.dtype) vs)) c.as_slice.ensures (kept node)))
+    (λ q kept node. settled-ok (aggregates node (aggregation_of c.args.aggregate) c.args.input.dtype) c.args.input q _ c.in-Ok.values c.in_ok-outcome.ensures c.in-Ok.is (kept node))
     c.aggregate_of.ensures.cells
 
 pub returns-in-Err-clause-cells : goal.returns-in-Err-clause-cells

@@ -1,7 +1,5 @@
-use Rattle.std.proofs.Common.{subst}
 use Rattle.std.proofs.lemmas.Result.{IfOk-weaker}
-use Rattle.ps_eval.specs.Held.{Keeps, values_of}
-use Rattle.ps_eval.specs.Wholes.{gathers, picked_column}
+use Rattle.ps_eval.specs.Wholes.{gathers}
 use Rattle.ps_eval.proofs.WholeOperands.{first-ok, values-two}
 use Rattle.ps_eval.proofs.whole.gathered_part.Goals as goal
 
@@ -11,6 +9,5 @@ returns-in-Ok-indices-clause-cells c =
     (λ q kept node. values-two (gathers node) c.args.input c.args.indices q _ _
     (first-ok c.args.input _ c.in-Ok.values c.in_ok-input.ensures c.in-Ok.is)
     (first-ok c.args.indices _ c.in-Ok-indices.places c.in_ok-indices.ensures c.in-Ok-indices.is)
-    (subst (λ vs. Keeps q (picked_column node (values_of c.in-Ok.values) vs)) c.as_slice-in-Ok-indices.ensures
-    (subst (λ vs. Keeps q (picked_column node vs c.as_slice-in-Ok-indices.result.now)) c.as_slice.ensures (kept node))))
+    (kept node))
     c.gathered_cells.ensures.cells

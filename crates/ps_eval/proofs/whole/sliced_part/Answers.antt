@@ -1,9 +1,7 @@
-use Rattle.std.proofs.Common.{◌∙◌, ap}
 use Rattle.std.proofs.lemmas.Result.{IfOk-weaker}
 use Rattle.ps_eval.specs.Held.{values_of}
-use Rattle.ps_eval.specs.Wholes.{int_of, slices}
+use Rattle.ps_eval.specs.Wholes.{slices}
 use Rattle.ps_eval.proofs.WholeOperands.{first-ok, sliced, values-three}
-use Rattle.ps_frame.specs.Eval.{at}
 use Rattle.ps_eval.proofs.whole.sliced_part.Goals as goal
 
 pub returns-in-Ok-length-clause-cells : goal.returns-in-Ok-length-clause-cells
@@ -14,5 +12,5 @@ returns-in-Ok-length-clause-cells c =
     (first-ok c.args.offset _ c.in-Ok-offset.offsets c.in_ok-offset.ensures c.in-Ok-offset.is)
     (first-ok c.args.length _ c.in-Ok-length.lengths c.in_ok-length.ensures c.in-Ok-length.is)
     (sliced q node (values_of c.in-Ok.values) (values_of c.in-Ok-offset.offsets) (values_of c.in-Ok-length.lengths) _ _
-    (c.number_in-from.ensures ∙ ap (λ vs. int_of (at 0 vs)) c.as_slice.ensures) (c.number_in-count.ensures ∙ ap (λ vs. int_of (at 0 vs)) c.as_slice-in-Ok-length.ensures) (kept node)))
+    c.number_in-from.ensures c.number_in-count.ensures (kept node)))
     c.sliced_values.ensures.cells

@@ -4,8 +4,8 @@ use Rattle.ps_frame.specs.Typed.{all_fit}
 use Rattle.ps_frame.specs.Values.{fits_kind}
 use Rattle.ps_frame.proofs.column.Column.gather_or_null.Goals as goal
 
-pub of_run-requires : goal.of_run-requires
-of_run-requires c =
+pub of_values-requires : goal.of_values-requires
+of_values-requires c =
     let a = c.self.inside in
     let mine : IsTrue (all_fit a.dtype c.args.self.now.values) = rw (← c.self.view_is) (list_all-picked (fits_kind a.dtype) a.places a.run refl c.self.invariant.1) in
-    rw (c.in_ok-run.ensures.made, c.in_ok-values.ensures.picked) (list_all-gathered_or_null (fits_kind a.dtype) c.args.self.now.values c.args.rows.now refl mine)
+    rw (c.in_ok-values.ensures.picked) (list_all-gathered_or_null (fits_kind a.dtype) c.args.self.now.values c.args.rows.now refl mine)

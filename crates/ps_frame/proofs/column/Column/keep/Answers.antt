@@ -10,12 +10,12 @@ returns-then-count-mask-clause-kept c =
     let same = sym (kept_of-all c.args.mask.now c.args.self.now (sym c.count_true-count.ensures ∙ c.if-count-mask.true) c.requires) in
     subst (λ (t : Typed). IfOk c.share.result (λ column. column ≡ t)) same c.share.ensures.same
 
-pub pick-requires : goal.pick-requires
-pick-requires c =
-    subst (λ (rows : List ℕ). All (λ i. i < length c.args.self.now.values) rows) (sym (c.in_ok-rows.ensures.made ∙ c.in_ok-true_rows.ensures.chosen))
+pub gather-requires : goal.gather-requires
+gather-requires c =
+    subst (λ (rows : List ℕ). All (λ i. i < length c.args.self.now.values) rows) (sym (c.as_slice.ensures.value ∙ c.in_ok-rows.ensures.chosen))
     (within-true_rows c.args.mask.now (length c.args.self.now.values) c.requires)
 
 pub returns-clause-kept : goal.returns-clause-kept
 returns-clause-kept c =
-    let same = gathered-true_rows c.args.mask.now c.args.self.now c.in_ok-rows.rows c.requires (c.in_ok-rows.ensures.made ∙ c.in_ok-true_rows.ensures.chosen) in
-    subst (λ (t : Typed). IfOk c.pick.result (λ column. column ≡ t)) same c.pick.ensures.picked
+    let same = gathered-true_rows c.args.mask.now c.args.self.now c.as_slice.result.now c.requires (c.as_slice.ensures.value ∙ c.in_ok-rows.ensures.chosen) in
+    subst (λ (t : Typed). IfOk c.gather.result (λ column. column ≡ t)) same c.gather.ensures.picked

@@ -1,7 +1,7 @@
 use Rattle.std.proofs.Common.{◌≡◌, ◌∷◌, arith, refl}
 use Rattle.json.specs.Reads.{token_of}
 use Rattle.ps_reading.proofs.Rules.{reads-same}
-use Rattle.ps_document.proofs.cells.ValueReadJsonCellsOf.read_json.Goals as goal
+use Rattle.ps_document.proofs.cells.read_cell.Goals as goal
 
 pub returns : goal.returns
 returns c =

@@ -1,0 +1,8 @@
+-- A column that grows at its end.
+use Rattle.std.specs.Prelude.{[], ◌∷◌, ◌++◌}
+use Rattle.ps_frame.specs.Typed.{Typed}
+use Rattle.ps_frame.specs.declared.value.Value.{Value}
+
+-- a column with one more value at its end
+abbrev pub with_value : Typed → Value → Typed
+with_value c v = record { kind = c.kind; values = c.values ++ v ∷ [] }

@@ -1,0 +1,271 @@
+// Few values that stand in many cells: each is held once, and a cell tells its place among them.
+ghost use Rattle.std.specs.Prelude.{◌≡◌, ◌<◌, [], Err, IfOk, IfSome, IsTrue, OnErr, if◌then◌else◌, length};
+ghost use Rattle.std.specs.List.{All};
+ghost use Rattle.ps_frame.specs.Frames.{above};
+ghost use Rattle.ps_frame.specs.Gathered.{gathered_or_null, value_or_null};
+ghost use Rattle.ps_frame.specs.Pushed.{with_value};
+ghost use Rattle.ps_frame.specs.Typed.{Typed, all_fit};
+ghost use Rattle.ps_frame.specs.Values.{fits_kind};
+ghost use Rattle.ps_frame.specs.Zip.{below};
+
+use crate::column::{Column, clones_at};
+use crate::error::FrameError;
+use crate::guesses::Guesses;
+use crate::value::{DataType, Value};
+use std::alloc::Global;
+use std::marker::Model;
+
+// At most so many values are told apart.
+pub(crate) const MOST_VALUES: usize = 4096;
+
+// Fewer cells have a value each.
+pub(crate) const FEWEST_CELLS: usize = 1024;
+
+// So have those that are there already, if each value stands in fewer of them on average.
+const CELLS_EACH: usize = 8;
+
+/// Values of a kind, each told by its place among a few. A cell takes 4 bytes.
+#[derive(Drop)]
+pub(crate) struct Packed {
+    dtype: DataType,
+    few: Vec<Value>,
+    places: Vec<u32>,
+    guesses: Guesses,
+}
+
+impl Model for Packed {
+    ghost use Rattle.std.specs.Prelude.{◌<◌, IsTrue, Some, length};
+    ghost use Rattle.std.specs.List.{All};
+    ghost use Rattle.ps_frame.specs.Gathered.{picked};
+    ghost use Rattle.ps_frame.specs.Typed.{Typed, all_fit};
+
+    ghost Value = { Typed };
+
+    ghost view = { λ a. record { kind = a.dtype; values = picked (Some a.places.items) a.few.items } };
+
+    ghost invariant = { λ a. All (λ i. i < length a.few.items) a.places.items × IsTrue (all_fit a.dtype a.few.items) };
+}
+
+impl Packed {
+    /// No values of this kind, which take no memory.
+    pub(crate) fn new(alloc: Global, dtype: DataType) -> Packed
+        ensures { result ≡ record { kind = dtype; values = [] } }
+    {
+        Packed {
+            dtype,
+            few: Vec::new(alloc),
+            places: Vec::new(alloc),
+            guesses: Guesses::new(alloc),
+        }
+    }
+
+    pub(crate) fn dtype(&self) -> DataType
+        ensures { result ≡ self.now.kind }
+    {
+        self.dtype
+    }
+
+    /// Puts an equal value at the end, where there is room for it: that is the answer.
+    ///
+    /// Fails only for want of memory.
+    pub(crate) fn push(&mut self, alloc: Global, value: &Value) -> Result<bool, FrameError>
+        requires { IsTrue (fits_kind self.old.kind value.now) }
+        ensures taken { IfOk result (λ taken. self.new ≡ (if taken then with_value self.old value.now else self.old)) }
+        ensures refused { OnErr result (self.new ≡ self.old) }
+        ensures memory { OnErr result (result ≡ Err FrameError.OutOfMemory) }
+    {
+        match self.guesses.place_of(self.few.as_slice(), value) {
+            Some(place) => {
+                self.places.push(place)?;
+                Ok(true)
+            }
+            None => self.push_new(alloc, value),
+        }
+    }
+
+    // What `push` does with a value that wasn't found.
+    fn push_new(&mut self, alloc: Global, value: &Value) -> Result<bool, FrameError>
+        requires { IsTrue (fits_kind self.old.kind value.now) }
+        ensures taken { IfOk result (λ taken. self.new ≡ (if taken then with_value self.old value.now else self.old)) }
+        ensures refused { OnErr result (self.new ≡ self.old) }
+        ensures memory { OnErr result (result ≡ Err FrameError.OutOfMemory) }
+    {
+        if self.few.len() >= MOST_VALUES {
+            return Ok(false);
+        }
+        let place = self.few.len() as u32;
+        let copy = value.try_clone(alloc)?;
+        self.guesses.note(alloc, self.few.as_slice(), value, place)?;
+        self.few.push(copy)?;
+        self.places.push(place)?;
+        Ok(true)
+    }
+
+    /// How many values are held.
+    fn count(&self) -> usize {
+        self.few.len()
+    }
+
+    /// The values, one for each cell.
+    ///
+    /// Fails only for want of memory.
+    pub(crate) fn values(&self, alloc: Global) -> Result<Vec<Value>, FrameError>
+        ensures same { IfOk result (λ values. values.items ≡ self.now.values) }
+        ensures memory { OnErr result (result ≡ Err FrameError.OutOfMemory) }
+    {
+        clones_at(alloc, self.few.as_slice(), self.places.as_slice())
+    }
+
+    /// Each value is null or of the kind: a law for proofs, which does nothing.
+    pub(crate) fn values_fit(&self)
+        ensures { IsTrue (all_fit self.now.kind self.now.values) }
+    {
+        let _dtype = &self.dtype;
+    }
+
+    /// The column of the values.
+    ///
+    /// Fails only for want of memory.
+    pub(crate) fn into_column(self, alloc: Global) -> Result<Column, FrameError>
+        ensures made { IfOk result (λ c. c ≡ self) }
+        ensures memory { OnErr result (result ≡ Err FrameError.OutOfMemory) }
+    {
+        let Packed {
+            dtype,
+            few,
+            places,
+            guesses: _guesses,
+        } = self;
+        if few.len() == places.len() && are_in_order(places.as_slice()) {
+            return Column::of_values(alloc, dtype, few);
+        }
+        if places.len() < FEWEST_CELLS {
+            return Column::of_copies(alloc, dtype, few.as_slice(), places.as_slice());
+        }
+        Column::of_few(alloc, dtype, few, places)
+    }
+}
+
+/// The values packed, where there are many of them and few differ.
+///
+/// Fails only for want of memory.
+pub(crate) fn pack(
+    alloc: Global,
+    dtype: DataType,
+    values: &[Value],
+) -> Result<Option<Packed>, FrameError>
+    requires { IsTrue (all_fit dtype values.now) }
+    ensures same { IfOk result (λ o. IfSome o (λ packed. packed ≡ record { kind = dtype; values = values.now })) }
+    ensures memory { OnErr result (result ≡ Err FrameError.OutOfMemory) }
+{
+    if values.len() < FEWEST_CELLS {
+        return Ok(None);
+    }
+    let most = values.len() / CELLS_EACH;
+    let mut packed = Packed::new(alloc, dtype);
+    for value in values {
+        if most < packed.count() {
+            return Ok(None);
+        }
+        let taken = packed.push(alloc, value)?;
+        if !taken {
+            return Ok(None);
+        }
+    }
+    Ok(Some(packed))
+}
+
+/// The values of a column above those of another one of its kind, packed if there is room.
+///
+/// Fails only for want of memory.
+pub(crate) fn pack_above(
+    alloc: Global,
+    upper: &Column,
+    lower: &Column,
+) -> Result<Option<Packed>, FrameError>
+    requires { upper.now.kind ≡ lower.now.kind }
+    ensures same { IfOk result (λ o. IfSome o (λ packed. packed ≡ above upper.now lower.now)) }
+    ensures memory { OnErr result (result ≡ Err FrameError.OutOfMemory) }
+{
+    let mut packed = Packed::new(alloc, upper.dtype());
+    let upper_taken = push_all(alloc, &mut packed, upper)?;
+    if !upper_taken {
+        return Ok(None);
+    }
+    let lower_taken = push_all(alloc, &mut packed, lower)?;
+    if !lower_taken {
+        return Ok(None);
+    }
+    Ok(Some(packed))
+}
+
+// Puts the values of a column at the end, as far as there is room: whether it was enough is the answer.
+fn push_all(alloc: Global, packed: &mut Packed, column: &Column) -> Result<bool, FrameError>
+    requires { packed.old.kind ≡ column.now.kind }
+    ensures added { IfOk result (λ all. IsTrue all → packed.new ≡ above packed.old column.now) }
+    ensures memory { OnErr result (result ≡ Err FrameError.OutOfMemory) }
+{
+    column.values_fit();
+    for i in 0..column.len() {
+        let taken = packed.push(alloc, column.value(i))?;
+        if !taken {
+            return Ok(false);
+        }
+    }
+    Ok(true)
+}
+
+/// What stands at these places of a column, with null where there is no place, packed if there is room.
+///
+/// Fails only for want of memory.
+pub(crate) fn pack_or_null(
+    alloc: Global,
+    column: &Column,
+    rows: &[Option<usize>],
+) -> Result<Option<Packed>, FrameError>
+    requires { All (λ place. IfSome place (λ i. i < length column.now.values)) rows.now }
+    ensures same { IfOk result (λ o. IfSome o (λ packed. packed ≡ gathered_or_null rows.now column.now)) }
+    ensures memory { OnErr result (result ≡ Err FrameError.OutOfMemory) }
+{
+    let mut packed = Packed::new(alloc, column.dtype());
+    for row in rows {
+        let taken = push_or_null(alloc, &mut packed, column, *row)?;
+        if !taken {
+            return Ok(None);
+        }
+    }
+    Ok(Some(packed))
+}
+
+fn push_or_null(
+    alloc: Global,
+    packed: &mut Packed,
+    column: &Column,
+    row: Option<usize>,
+) -> Result<bool, FrameError>
+    requires kinds { packed.old.kind ≡ column.now.kind }
+    requires there { IfSome row (λ i. i < length column.now.values) }
+    ensures added { IfOk result (λ taken. IsTrue taken → packed.new ≡ with_value packed.old (value_or_null column.now.values row)) }
+    ensures memory { OnErr result (result ≡ Err FrameError.OutOfMemory) }
+{
+    column.values_fit();
+    match row {
+        Some(i) => packed.push(alloc, column.value(i)),
+        None => {
+            let null = Value::Null;
+            packed.push(alloc, &null)
+        }
+    }
+}
+
+// Whether each place is its own number.
+fn are_in_order(places: &[u32]) -> bool
+    ensures { IsTrue result → places.now ≡ below (length places.now) }
+{
+    for i in 0..places.len() {
+        if places[i] as usize != i {
+            return false;
+        }
+    }
+    true
+}
