@@ -27,10 +27,10 @@ pub fn number_rows(
     requires { AllOfHeight height columns.now }
     ensures { IfOk result (Numbers (rows_of height (column_values columns.now))) }
 {
-    let mut table = KeyTable::with_buckets(alloc, height)?;
+    let mut table = KeyTable::new(alloc)?;
     let mut keys = Vec::with_capacity(alloc, height)?;
     for row in 0..height {
-        keys.push(table.number_of(columns, row)?)?;
+        keys.push(table.number_of(alloc, columns, row)?)?;
     }
     let KeyTable { firsts, .. } = table;
     Ok(Numbering { keys, firsts })

@@ -9,6 +9,12 @@ use ps_frame::column::Column;
 use pu_order::hash_to_partition;
 use std::alloc::{AllocError, Global};
 
+// How many buckets a table has at first.
+const FEWEST_BUCKETS: usize = 64;
+
+// How many times as many it has when it grows.
+const GROWTH: usize = 4;
+
 /// The first row of each key by the key's number, its hash, and chains of the keys of each bucket.
 ///
 /// A head or a next is one more than a key's number, and 0 is the end of a chain.
@@ -21,8 +27,19 @@ pub(crate) struct KeyTable {
 }
 
 impl KeyTable {
-    /// A table without keys, with so many buckets.
-    pub(crate) fn with_buckets(alloc: Global, count: usize) -> Result<KeyTable, AllocError>
+    /// A table without keys. It has at least as many buckets as keys, so it grows with them.
+    ///
+    /// Fails only for want of memory.
+    pub(crate) fn new(alloc: Global) -> Result<KeyTable, AllocError>
+        ensures empty { IfOk result (λ t. t.firsts.items ≡ []) }
+        ensures buckets { IfOk result (λ t. 0 < length t.heads.items) }
+        ensures sound { (row : ℕ → List Value) → IfOk result (IsSound row) }
+    {
+        KeyTable::with_buckets(alloc, FEWEST_BUCKETS)
+    }
+
+    // A table without keys, with so many buckets.
+    fn with_buckets(alloc: Global, count: usize) -> Result<KeyTable, AllocError>
         ensures empty { IfOk result (λ t. t.firsts.items ≡ []) }
         ensures buckets { IfOk result (λ t. length t.heads.items ≡ count) }
         ensures sound { (row : ℕ → List Value) → IfOk result (IsSound row) }
@@ -36,22 +53,65 @@ impl KeyTable {
     }
 
     /// The number of a row's key, which is put in if it is new.
-    pub(crate) fn number_of(&mut self, columns: &[Column], row: usize) -> Result<usize, AllocError>
+    ///
+    /// Fails only for want of memory.
+    pub(crate) fn number_of(
+        &mut self,
+        alloc: Global,
+        columns: &[Column],
+        row: usize,
+    ) -> Result<usize, AllocError>
         requires sound { IsSound (row_at columns.now) self.old }
         requires buckets { 0 < length self.old.heads.items }
         requires rows { HaveRows columns.now self.old.firsts.items }
         requires row { HaveRow columns.now row }
         ensures sound { OnOk result (IsSound (row_at columns.now) self.new) }
         ensures number { IfOk result (IsNumbered (row_at columns.now) self.old.firsts.items self.new.firsts.items row) }
-        ensures buckets { length self.new.heads.items ≡ length self.old.heads.items }
+        ensures buckets { OnOk result (0 < length self.new.heads.items) }
     {
         let hash = hash_of(columns, row);
         if let Some(key) = self.find(columns, row, hash) {
             return Ok(key);
         }
+        self.make_room(alloc, columns)?;
         let key = self.firsts.len();
         self.push(columns, row, hash)?;
         Ok(key)
+    }
+
+    // Has more buckets than keys from here on.
+    fn make_room(&mut self, alloc: Global, columns: &[Column]) -> Result<(), AllocError>
+        requires sound { IsSound (row_at columns.now) self.old }
+        requires buckets { 0 < length self.old.heads.items }
+        ensures sound { OnOk result (IsSound (row_at columns.now) self.new) }
+        ensures kept { OnOk result (self.new.firsts.items ≡ self.old.firsts.items) }
+        ensures buckets { OnOk result (0 < length self.new.heads.items) }
+    {
+        if self.firsts.len() >= self.heads.len() {
+            let count = self.heads.len().saturating_mul(GROWTH);
+            *self = self.spread(alloc, columns, count)?;
+        }
+        Ok(())
+    }
+
+    // The same keys in so many buckets.
+    fn spread(
+        &self,
+        alloc: Global,
+        columns: &[Column],
+        count: usize,
+    ) -> Result<KeyTable, AllocError>
+        requires sound { IsSound (row_at columns.now) self.now }
+        requires buckets { 0 < count }
+        ensures sound { IfOk result (IsSound (row_at columns.now)) }
+        ensures kept { IfOk result (λ t. t.firsts.items ≡ self.now.firsts.items) }
+        ensures buckets { IfOk result (λ t. length t.heads.items ≡ count) }
+    {
+        let mut table = KeyTable::with_buckets(alloc, count)?;
+        for key in 0..self.firsts.len() {
+            table.push(columns, self.firsts[key], self.hashes[key])?;
+        }
+        Ok(table)
     }
 
     // The number of a row's key, whose hash is given.

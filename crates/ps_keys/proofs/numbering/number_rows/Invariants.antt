@@ -1,4 +1,4 @@
-use Rattle.std.proofs.Common.{◌≡◌, length, map}
+use Rattle.std.proofs.Common.{◌<◌, length, map}
 use Rattle.ps_frame.specs.Zip.{below}
 use Rattle.ps_keys.specs.Chains.{IsSound}
 use Rattle.ps_keys.specs.Hashes.{row_at}
@@ -9,5 +9,5 @@ abbrev pub invariant-loop-row : goal.invariant-loop-row
 invariant-loop-row l = record {
   numbers : Numbers (map (row_at l.columns) (below l.row)) (record { keys = l.keys; firsts = l.table.firsts });
   sound : IsSound (row_at l.columns) l.table;
-  buckets : length l.table.heads.items ≡ l.height;
+  buckets : 0 < length l.table.heads.items;
 }
