@@ -36,15 +36,6 @@ all-at P [] i x p h is = absurd (omega arith)
 all-at P (y ∷ xs) zero x p h is = subst P (sym is) p.0
 all-at P (y ∷ xs) (suc i) x p h is = all-at P xs i x p.1 (omega arith) is
 
--- one more item of a list, by its place
-take-more : {A : Type 0} (ys : List A) (i : ℕ) (x : A) → slice_get ys i ≡ Some x → take (suc i) ys ≡ take i ys ++ x ∷ []
-take-more [] i x e = cc
-take-more (y ∷ ys) zero x e = ap (λ z. z ∷ []) (same_Some y x e)
-take-more (y ∷ ys) (suc i) x e = ap (λ zs. y ∷ zs) (take-more ys i x e)
-
-pub push-step : {A : Type 0} (xs ys before new : List A) (i : ℕ) (x : A) → slice_get ys i ≡ Some x → before ≡ xs ++ take i ys → new ≡ before ++ x ∷ [] → new ≡ xs ++ take (i + 1) ys
-push-step xs ys before new i x e is grown = rw add-one (grown ∙ ap (λ zs. zs ++ x ∷ []) is ∙ append_assoc xs (take i ys) (x ∷ []) ∙ ap (λ zs. xs ++ zs) (sym (take-more ys i x e)))
-
 all_rows-append : (fs gs : List Frame) → all_rows (fs ++ gs) ≡ all_rows fs ++ all_rows gs
 all_rows-append [] gs = refl
 all_rows-append (f ∷ fs) gs = ap (λ rows. f.rows ++ rows) (all_rows-append fs gs) ∙ sym (append_assoc f.rows (all_rows fs) (all_rows gs))
@@ -92,19 +83,19 @@ rows-fit s [] e p = tt
 rows-fit s (f ∷ fs) e p =
     all-append (FitsKinds (kinds_of s)) f.rows (all_rows fs) (subst (λ (s : Fields). AllByRecursion (FitsKinds (kinds_of s)) f.rows) e.0 p.0) (rows-fit s fs e.1 p.1)
 
-value-fits : (s : Fields) (row : List Value) (i : ℕ) (k : DataType) → FitsKinds (kinds_of s) row → option_map (λ (f : List ℕ × DataType). f.1) (slice_get s i) ≡ Some k → IsTrue (fits_kind k (get_or row i val.Null))
-value-fits [] row i k p e = cc
-value-fits (f ∷ s) [] i k p e = absurd p
-value-fits (f ∷ s) (v ∷ row) zero k p e = subst (λ k. IsTrue (fits_kind k v)) (same_Some f.1 k e) p.0
-value-fits (f ∷ s) (v ∷ row) (suc i) k p e = value-fits s row i k p.1 e
-
-pub values-fit : (s : Fields) (rows : List (List Value)) (i : ℕ) (k : DataType) → AllByRecursion (FitsKinds (kinds_of s)) rows → option_map (λ (f : List ℕ × DataType). f.1) (slice_get s i) ≡ Some k → IsTrue (all_fit k (values_at i rows))
-values-fit s [] i k p e = refl
-values-fit s (row ∷ rows) i k p e = and_both (fits_kind k (get_or row i val.Null)) (all_fit k (values_at i rows)) (value-fits s row i k p.0 e) (values-fit s rows i k p.1 e)
-
 pub places-in-all : (s : Fields) (fs : List Frame) (i : ℕ) → AllByRecursion (λ (f : Frame). f.schema ≡ s) fs → i < length s → AllByRecursion (λ (f : Frame). i < length f.schema) fs
 places-in-all s [] i e h = tt
 places-in-all s (f ∷ fs) i e h = (subst (λ n. i < n) (sym (ap length e.0)) h, places-in-all s fs i e.1 h)
+
+kind-at : (s : Fields) (i : ℕ) (k : DataType) → option_map (λ (f : List ℕ × DataType). f.1) (slice_get s i) ≡ Some k → slice_get (kinds_of s) i ≡ Some k
+kind-at [] i k e = cc
+kind-at (f ∷ s) zero k e = e
+kind-at (f ∷ s) (suc i) k e = kind-at s i k e
+
+-- the kind at a place is that of each table
+pub kinds-in-all : (s : Fields) (fs : List Frame) (i : ℕ) (k : DataType) → AllByRecursion (λ (f : Frame). f.schema ≡ s) fs → option_map (λ (f : List ℕ × DataType). f.1) (slice_get s i) ≡ Some k → AllByRecursion (λ (f : Frame). slice_get (kinds_of f.schema) i ≡ Some k) fs
+kinds-in-all s [] i k e h = tt
+kinds-in-all s (f ∷ fs) i k e h = (ap (λ s. slice_get (kinds_of s) i) e.0 ∙ kind-at s i k h, kinds-in-all s fs i k e.1 h)
 
 -- one more kind
 kinds-more : (s : Fields) (i : ℕ) (k : DataType) → option_map (λ (f : List ℕ × DataType). f.1) (slice_get s i) ≡ Some k → kinds_of (take (suc i) s) ≡ kinds_of (take i s) ++ k ∷ []

@@ -1,12 +1,11 @@
 // The rows of tables, one table after the other.
-ghost use Rattle.std.specs.Prelude.{◌≡◌, ◌≢◌, ◌++◌, ◌<◌, ◌≤◌, [], Err, IfErr, IfOk, IsTrue, OnErr, OnOk, length, map, min, ℕ};
+ghost use Rattle.std.specs.Prelude.{◌≡◌, ◌≢◌, ◌<◌, ◌≤◌, [], Err, IfErr, IfOk, OnErr, Some, length, map, min, slice_get, ℕ};
 ghost use Rattle.std.specs.List.{AllByRecursion};
 ghost use Rattle.ps_frame.specs.Aggregates.{max_rows};
-ghost use Rattle.ps_frame.specs.Frames.{HasKinds, column_values};
+ghost use Rattle.ps_frame.specs.Frames.{HasKinds, above, column_values, kinds_of};
 ghost use Rattle.ps_frame.specs.Functions.{Functions};
 ghost use Rattle.ps_frame.specs.Lawful.{FitsFrame};
 ghost use Rattle.ps_frame.specs.Tables.{Frame, values_at};
-ghost use Rattle.ps_frame.specs.Typed.{all_fit};
 ghost use Rattle.ps_frame.specs.Zip.{below};
 ghost use Rattle.ps_plan.specs.Nodes.{GivesFrame, MayFault};
 ghost use Rattle.ps_plan.specs.Steps.{union as union_step};
@@ -14,13 +13,14 @@ ghost use Rattle.ps_tables.specs.Columns.{all_rows};
 
 use crate::cut::cut;
 use crate::fits::tables_fit;
-use crate::framed::{column_of_values, frame_of_height};
+use crate::framed::frame_of_height;
 use crate::pass::pass;
+use ps_frame::builder::ColumnBuilder;
 use ps_frame::column::Column;
 use ps_frame::frame::DataFrame;
 use ps_frame::refusal::{Bound, PolarsError, PolarsResult};
 use ps_frame::schema::Schema;
-use ps_frame::value::{DataType, Value};
+use ps_frame::value::DataType;
 use pu_index::Node;
 use std::alloc::Global;
 
@@ -83,7 +83,7 @@ fn one_after_another(
         }
     }
     tables_fit(inputs);
-    let columns = joined_columns(alloc, inputs, schema, height)?;
+    let columns = joined_columns(alloc, inputs, schema)?;
     frame_of_height(alloc, schema, columns, height)
 }
 
@@ -91,51 +91,60 @@ fn joined_columns(
     alloc: Global,
     inputs: &[DataFrame],
     schema: &Schema,
-    height: usize,
 ) -> PolarsResult<Vec<Column>>
     requires alike { AllByRecursion (λ (f : Frame). f.schema ≡ schema.now) inputs.now }
-    requires fit { AllByRecursion FitsFrame inputs.now }
     ensures kinds { IfOk result (λ columns. HasKinds schema.now columns.items) }
     ensures values { IfOk result (λ columns. column_values columns.items ≡ map (λ i. values_at i (all_rows inputs.now)) (below (length schema.now))) }
     ensures memory { OnErr result (result ≡ Err PolarsError.OutOfMemory) }
 {
     let mut columns = Vec::with_capacity(alloc, schema.len())?;
     for i in 0..schema.len() {
-        columns.push(joined_column(alloc, inputs, i, schema.kind(i), height)?)?;
+        columns.push(joined_column(alloc, inputs, i, schema.kind(i))?)?;
     }
     Ok(columns)
 }
 
-// The values of the tables at a place, for which there is room for `height` at once.
+// The values of the tables at a place, where each has this kind.
 fn joined_column(
     alloc: Global,
     inputs: &[DataFrame],
     i: usize,
     dtype: DataType,
-    height: usize,
 ) -> PolarsResult<Column>
     requires place { AllByRecursion (λ (f : Frame). i < length f.schema) inputs.now }
-    requires fit { IsTrue (all_fit dtype (values_at i (all_rows inputs.now))) }
+    requires kind { AllByRecursion (λ (f : Frame). slice_get (kinds_of f.schema) i ≡ Some dtype) inputs.now }
     ensures kind { IfOk result (λ c. c.kind ≡ dtype) }
     ensures values { IfOk result (λ c. c.values ≡ values_at i (all_rows inputs.now)) }
     ensures memory { OnErr result (result ≡ Err PolarsError.OutOfMemory) }
 {
-    let mut values = Vec::with_capacity(alloc, height)?;
+    let mut builder = ColumnBuilder::new(alloc, dtype);
     for df in inputs {
-        push_values(alloc, &mut values, df.column(i))?;
+        builder = with_column(alloc, builder, df.column(i))?;
     }
-    column_of_values(alloc, dtype, values)
+    finished(alloc, builder)
 }
 
-fn push_values(alloc: Global, values: &mut Vec<Value>, column: &Column) -> PolarsResult<()>
-    ensures added { OnOk result (values.new.items ≡ values.old.items ++ column.now.values) }
+fn with_column(
+    alloc: Global,
+    builder: ColumnBuilder,
+    column: &Column,
+) -> PolarsResult<ColumnBuilder>
+    requires { builder.kind ≡ column.now.kind }
+    ensures added { IfOk result (λ b. b ≡ above builder column.now) }
     ensures memory { OnErr result (result ≡ Err PolarsError.OutOfMemory) }
 {
-    for i in 0..column.len() {
-        let Ok(copy) = column.value(i).try_clone(alloc) else {
-            return Err(PolarsError::OutOfMemory);
-        };
-        values.push(copy)?;
+    match builder.with_column(alloc, column) {
+        Ok(builder) => Ok(builder),
+        Err(_) => Err(PolarsError::OutOfMemory),
     }
-    Ok(())
+}
+
+fn finished(alloc: Global, builder: ColumnBuilder) -> PolarsResult<Column>
+    ensures made { IfOk result (λ c. c ≡ builder) }
+    ensures memory { OnErr result (result ≡ Err PolarsError.OutOfMemory) }
+{
+    match builder.finish(alloc) {
+        Ok(column) => Ok(column),
+        Err(_) => Err(PolarsError::OutOfMemory),
+    }
 }

@@ -1,8 +1,8 @@
-use Rattle.ps_tables.proofs.Stacked.{columns-push, kinds-push, rows-fit, values-fit}
+use Rattle.ps_tables.proofs.Stacked.{columns-push, kinds-in-all, kinds-push}
 use Rattle.ps_tables.proofs.union.joined_columns.Goals as goal
 
-pub joined_column-requires-clause-fit : goal.joined_column-requires-clause-fit
-joined_column-requires-clause-fit c = values-fit c.args.schema.now _ c.loop-i.i c.kind.result (rows-fit c.args.schema.now c.args.inputs.now c.requires.alike c.requires.fit) c.kind.ensures
+pub joined_column-requires-clause-kind : goal.joined_column-requires-clause-kind
+joined_column-requires-clause-kind c = kinds-in-all c.args.schema.now c.args.inputs.now c.loop-i.i c.kind.result c.requires.alike c.kind.ensures
 
 pub loop-i-preserved : goal.loop-i-preserved
 loop-i-preserved c =
