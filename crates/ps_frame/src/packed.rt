@@ -101,7 +101,7 @@ impl Packed {
         ensures refused { OnErr result (self.new ≡ self.old) }
         ensures memory { OnErr result (result ≡ Err FrameError.OutOfMemory) }
     {
-        if self.is_full() {
+        if self.few.len() >= MOST_VALUES || self.seldom_repeat() {
             return Ok(false);
         }
         let place = self.few.len() as u32;
@@ -112,11 +112,10 @@ impl Packed {
         Ok(true)
     }
 
-    // Whether another value is one too many: there are very many, or many that seldom repeat.
-    fn is_full(&self) -> bool {
-        let count = self.few.len();
-        let repeats = self.places.len().saturating_sub(count);
-        count >= MOST_VALUES || (count >= FEW_VALUES && repeats < self.places.len() / SELDOM)
+    // Whether there are many values, of which too few stood there before.
+    fn seldom_repeat(&self) -> bool {
+        let repeats = self.places.len().saturating_sub(self.few.len());
+        self.few.len() >= FEW_VALUES && repeats < self.places.len() / SELDOM
     }
 
     /// How many values are held.
