@@ -16,5 +16,5 @@ loop-run-preserved g c =
     let here = slice_get_read runs (length runs) c.loop-run.run-index c.run-item.result refl (omega arith) c.run-item.is in
     rw c.len-left.ensures (record {
       within = left-later runs c.loop-run.run-index c.loop-run.left c.args.i c.run-item.result here c.loop-run.invariant.within (omega arith);
-      same = item-later runs c.loop-run.run-index c.loop-run.left c.args.i c.run-item.result here c.loop-run.invariant.same (omega arith)
+      same = item-later runs c.loop-run.run-index c.loop-run.left c.args.i c.run-item.result here c.loop-run.invariant.same (omega arith);
     })
