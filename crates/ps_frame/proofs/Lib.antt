@@ -10,4 +10,5 @@ pub mod Broadcasts
 pub mod SmallCases
 pub mod NamePlaces
 pub mod Gathers
+pub mod Seams
 pub mod Packing

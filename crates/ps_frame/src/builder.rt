@@ -1,34 +1,39 @@
 // A column that is made value by value.
-ghost use Rattle.std.specs.Prelude.{◌≡◌, ◌↔◌, [], Err, IfOk, IsFalse, IsTrue, OnErr, OnOk, if◌then◌else◌};
+ghost use Rattle.std.specs.Prelude.{◌≡◌, ◌≢◌, ◌↔◌, [], Err, IfOk, IsFalse, IsTrue, OnErr, OnOk, ◌++◌, if◌then◌else◌};
+ghost use Rattle.ps_frame.specs.Frames.{above};
 ghost use Rattle.ps_frame.specs.Pushed.{with_value};
-ghost use Rattle.ps_frame.specs.Typed.{Typed};
+ghost use Rattle.ps_frame.specs.Typed.{Typed, all_fit};
 ghost use Rattle.ps_frame.specs.Values.{fits_kind};
 
 use crate::column::Column;
 use crate::error::FrameError;
 use crate::packed::Packed;
+use crate::runs::MOST_RUNS;
 use crate::value::{DataType, Value};
 use std::alloc::Global;
 use std::marker::Model;
 
 /// A kind, and values of it that are pushed one after another: a column in the making.
 ///
-/// As long as few values differ, each of them is held once, and a cell takes 4 bytes.
+/// As long as few values differ, each of them is held once, and a cell takes 4 bytes. Long columns
+/// that are put in whole are shared, and stand in front of what was pushed since.
 #[derive(Drop)]
 pub struct ColumnBuilder {
+    front: Option<Column>,
     packed: Packed,
     rest: Vec<Value>,
 }
 
 impl Model for ColumnBuilder {
-    ghost use Rattle.std.specs.Prelude.{◌++◌, IsTrue};
+    ghost use Rattle.std.specs.Prelude.{◌≡◌, ◌++◌, IfSome, IsTrue};
+    ghost use Rattle.ps_frame.specs.Pushed.{values_of};
     ghost use Rattle.ps_frame.specs.Typed.{Typed, all_fit};
 
     ghost Value = { Typed };
 
-    ghost view = { λ a. record { kind = a.packed.kind; values = a.packed.values ++ a.rest.items } };
+    ghost view = { λ a. record { kind = a.packed.kind; values = values_of a.front ++ (a.packed.values ++ a.rest.items) } };
 
-    ghost invariant = { λ a. IsTrue (all_fit a.packed.kind a.rest.items) };
+    ghost invariant = { λ a. IfSome a.front (λ front. front.kind ≡ a.packed.kind) × IsTrue (all_fit a.packed.kind a.rest.items) };
 }
 
 impl ColumnBuilder {
@@ -37,6 +42,7 @@ impl ColumnBuilder {
         ensures { result ≡ record { kind = dtype; values = [] } }
     {
         ColumnBuilder {
+            front: None,
             packed: Packed::new(alloc, dtype),
             rest: Vec::new(alloc),
         }
@@ -87,7 +93,8 @@ impl ColumnBuilder {
 
     // From here on each cell has a value of its own.
     fn unpack(&mut self, alloc: Global) -> Result<(), FrameError>
-        ensures { self.new ≡ self.old }
+        ensures same { self.new ≡ self.old }
+        ensures memory { OnErr result (result ≡ Err FrameError.OutOfMemory) }
     {
         if self.rest.is_empty() {
             self.packed.values_fit();
@@ -108,6 +115,85 @@ impl ColumnBuilder {
         Ok(())
     }
 
+    /// Puts the values of a column at the end; those of a long one are shared where that is possible.
+    ///
+    /// It fails with `Kind` for a column of another kind, and else only for want of memory.
+    pub fn with_column(self, alloc: Global, column: &Column) -> Result<ColumnBuilder, FrameError>
+        ensures added { IfOk result (λ builder. builder ≡ above self column.now) }
+        ensures kind { (result ≡ Err FrameError.Kind) ↔ (self.kind ≢ column.now.kind) }
+        ensures errors { OnErr result (self.kind ≡ column.now.kind → result ≡ Err FrameError.OutOfMemory) }
+    {
+        if self.packed.dtype() != column.dtype() {
+            return Err(FrameError::Kind);
+        }
+        match self.followed_by(alloc, column) {
+            Ok(builder) => Ok(builder),
+            Err(_) => Err(FrameError::OutOfMemory),
+        }
+    }
+
+    fn followed_by(self, alloc: Global, column: &Column) -> Result<ColumnBuilder, FrameError>
+        requires { self.kind ≡ column.now.kind }
+        ensures added { IfOk result (λ builder. builder ≡ above self column.now) }
+    {
+        if self.can_share(column) {
+            return self.sharing(alloc, column);
+        }
+        let mut builder = self;
+        builder.push_values(alloc, column)?;
+        Ok(builder)
+    }
+
+    // Whether it pays to share the values of a column, and there is room for its runs, for what was
+    // pushed so far and for what comes behind.
+    fn can_share(&self, column: &Column) -> bool {
+        let runs = match &self.front {
+            Some(front) => front.count_runs(),
+            None => 0,
+        };
+        column.is_wide() && runs.saturating_add(column.count_runs()) <= MOST_RUNS - 2
+    }
+
+    // What `with_column` answers; the values of the column are shared, if there is room.
+    fn sharing(self, alloc: Global, column: &Column) -> Result<ColumnBuilder, FrameError>
+        requires { self.kind ≡ column.now.kind }
+        ensures added { IfOk result (λ builder. builder ≡ above self column.now) }
+    {
+        let mut builder = self;
+        builder.unpack(alloc)?;
+        let upper = builder.finish(alloc)?;
+        let front = upper.append(alloc, column)?;
+        let dtype = front.dtype();
+        Ok(ColumnBuilder {
+            front: Some(front),
+            packed: Packed::new(alloc, dtype),
+            rest: Vec::new(alloc),
+        })
+    }
+
+    fn push_values(&mut self, alloc: Global, column: &Column) -> Result<(), FrameError>
+        requires { self.old.kind ≡ column.now.kind }
+        ensures added { OnOk result (self.new ≡ above self.old column.now) }
+    {
+        column.values_fit();
+        for i in 0..column.len() {
+            self.push_copy(alloc, column.value(i))?;
+        }
+        Ok(())
+    }
+
+    // Puts an equal value at the end.
+    fn push_copy(&mut self, alloc: Global, value: &Value) -> Result<(), FrameError>
+        requires { IsTrue (fits_kind self.old.kind value.now) }
+        ensures added { OnOk result (self.new ≡ with_value self.old value.now) }
+    {
+        if self.push_packed(alloc, value)? {
+            return Ok(());
+        }
+        self.unpack(alloc)?;
+        self.push_apart(value.try_clone(alloc)?)
+    }
+
     /// The column of the values.
     ///
     /// Fails only for want of memory.
@@ -115,10 +201,39 @@ impl ColumnBuilder {
         ensures made { IfOk result (λ c. c ≡ self) }
         ensures memory { OnErr result (result ≡ Err FrameError.OutOfMemory) }
     {
-        let ColumnBuilder { packed, rest } = self;
-        let dtype = packed.dtype();
-        let front = packed.into_column(alloc)?;
-        let rest = Column::of_values(alloc, dtype, rest)?;
-        front.append(alloc, &rest)
+        let mut builder = self;
+        if builder.front.is_some() {
+            // What stands behind shared runs is to be one of them.
+            builder.unpack(alloc)?;
+        }
+        builder.put_together(alloc)
     }
+
+    fn put_together(self, alloc: Global) -> Result<Column, FrameError>
+        ensures made { IfOk result (λ c. c ≡ self) }
+        ensures memory { OnErr result (result ≡ Err FrameError.OutOfMemory) }
+    {
+        let ColumnBuilder {
+            front,
+            packed,
+            rest,
+        } = self;
+        let pushed = pushed_column(alloc, packed, rest)?;
+        match front {
+            Some(front) => front.append(alloc, &pushed),
+            None => Ok(pushed),
+        }
+    }
+}
+
+// The column of what was pushed.
+fn pushed_column(alloc: Global, packed: Packed, rest: Vec<Value>) -> Result<Column, FrameError>
+    requires { IsTrue (all_fit packed.kind rest.items) }
+    ensures made { IfOk result (λ c. c ≡ record { kind = packed.kind; values = packed.values ++ rest.items }) }
+    ensures memory { OnErr result (result ≡ Err FrameError.OutOfMemory) }
+{
+    let dtype = packed.dtype();
+    let front = packed.into_column(alloc)?;
+    let rest = Column::of_values(alloc, dtype, rest)?;
+    front.append(alloc, &rest)
 }

@@ -15,6 +15,7 @@ pub mod laws;
 mod packed;
 pub mod refusal;
 pub mod run;
+mod runs;
 pub mod schema;
 #[cfg(test)]
 mod tests;

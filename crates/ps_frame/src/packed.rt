@@ -16,13 +16,24 @@ use std::alloc::Global;
 use std::marker::Model;
 
 // At most so many values are told apart.
-pub(crate) const MOST_VALUES: usize = 4096;
+const MOST_VALUES: usize = 65_536;
+
+// So many are few however seldom they repeat.
+pub(crate) const FEW_VALUES: usize = 4096;
+
+// Beyond those, one in so many pushed values was there before.
+const SELDOM: usize = 32;
 
 // Fewer cells have a value each.
 pub(crate) const FEWEST_CELLS: usize = 1024;
 
 // So have those that are there already, if each value stands in fewer of them on average.
 const CELLS_EACH: usize = 8;
+
+/// Whether values are few enough to be packed with others in that many cells.
+pub(crate) fn are_few(values: usize, cells: usize) -> bool {
+    FEWEST_CELLS <= cells && values <= FEW_VALUES.max(MOST_VALUES.min(cells / CELLS_EACH))
+}
 
 /// Values of a kind, each told by its place among a few. A cell takes 4 bytes.
 #[derive(Drop)]
@@ -90,7 +101,7 @@ impl Packed {
         ensures refused { OnErr result (self.new ≡ self.old) }
         ensures memory { OnErr result (result ≡ Err FrameError.OutOfMemory) }
     {
-        if self.few.len() >= MOST_VALUES {
+        if self.few.len() >= MOST_VALUES || self.seldom_repeat() {
             return Ok(false);
         }
         let place = self.few.len() as u32;
@@ -99,6 +110,12 @@ impl Packed {
         self.few.push(copy)?;
         self.places.push(place)?;
         Ok(true)
+    }
+
+    // Whether there are many values, of which too few stood there before.
+    fn seldom_repeat(&self) -> bool {
+        let repeats = self.places.len().saturating_sub(self.few.len());
+        self.few.len() >= FEW_VALUES && repeats < self.places.len() / SELDOM
     }
 
     /// How many values are held.
