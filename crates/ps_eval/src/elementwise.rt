@@ -62,12 +62,12 @@ pub fn binary_part(
 {
     let endings = [left.ending(), right.ending()];
     let rows = count_rows(&endings);
-    let cells = binary_cells(alloc, op, left, right, rows)?;
     let dtype = if compares(op) {
         DataType::Boolean
     } else {
         left.dtype
     };
+    let cells = binary_cells(alloc, op, dtype, left, right, rows)?;
     Ok(Part {
         dtype,
         cells,
@@ -78,6 +78,7 @@ pub fn binary_part(
 fn binary_cells(
     alloc: Global,
     op: Operator,
+    dtype: DataType,
     left: &Part,
     right: &Part,
     rows: usize,
@@ -88,13 +89,13 @@ fn binary_cells(
 {
     let left_repeats = left.repeats();
     let right_repeats = right.repeats();
-    let mut cells = Growing::with_capacity(alloc, rows)?;
+    let mut cells = Growing::new(alloc, dtype);
     for i in 0..rows {
         let a = cell_in_row(&left.cells, left_repeats, i);
         let b = cell_in_row(&right.cells, right_repeats, i);
         cells.push(alloc, binary_cell(op, a, b))?;
     }
-    Ok(cells.finish())
+    cells.finish(alloc)
 }
 
 fn binary_cell(
@@ -129,11 +130,11 @@ pub fn unary_part(alloc: Global, op: Unary, input: &Part) -> Result<Part, AllocE
 {
     let endings = [input.ending()];
     let rows = count_rows(&endings);
-    let cells = unary_cells(alloc, op, input, rows)?;
     let dtype = match op {
         Unary::Cast { dtype, strict: _ } => dtype,
         Unary::Not | Unary::IsNull | Unary::IsNotNull => DataType::Boolean,
     };
+    let cells = unary_cells(alloc, op, dtype, input, rows)?;
     Ok(Part {
         dtype,
         cells,
@@ -141,17 +142,23 @@ pub fn unary_part(alloc: Global, op: Unary, input: &Part) -> Result<Part, AllocE
     })
 }
 
-fn unary_cells(alloc: Global, op: Unary, input: &Part, rows: usize) -> Result<Cells, AllocError>
+fn unary_cells(
+    alloc: Global,
+    op: Unary,
+    dtype: DataType,
+    input: &Part,
+    rows: usize,
+) -> Result<Cells, AllocError>
     requires { FillsRows (cells_of input.now.cells) (repeats_in input.now) rows }
     ensures { IfOk result (λ cells. cells_of cells ≡ cells_from (unary_row op) (input.now ∷ []) rows) }
 {
     let repeats = input.repeats();
-    let mut cells = Growing::with_capacity(alloc, rows)?;
+    let mut cells = Growing::new(alloc, dtype);
     for i in 0..rows {
         let a = cell_in_row(&input.cells, repeats, i);
         cells.push(alloc, unary_cell(alloc, op, a)?)?;
     }
-    Ok(cells.finish())
+    cells.finish(alloc)
 }
 
 fn unary_cell(
@@ -231,14 +238,14 @@ fn ternary_cells(
     let predicate_repeats = predicate.repeats();
     let truthy_repeats = truthy.repeats();
     let falsy_repeats = falsy.repeats();
-    let mut cells = Growing::with_capacity(alloc, rows)?;
+    let mut cells = Growing::new(alloc, truthy.dtype);
     for i in 0..rows {
         let p = cell_in_row(&predicate.cells, predicate_repeats, i);
         let a = cell_in_row(&truthy.cells, truthy_repeats, i);
         let b = cell_in_row(&falsy.cells, falsy_repeats, i);
         cells.push(alloc, ternary_cell(alloc, p, a, b)?)?;
     }
-    Ok(cells.finish())
+    cells.finish(alloc)
 }
 
 fn ternary_cell(
