@@ -1,5 +1,5 @@
 // Operators that go cell by cell over their operands side by side.
-ghost use Rattle.std.specs.Prelude.{◌≡◌, ◌+◌, ◌∷◌, [], IfOk};
+ghost use Rattle.std.specs.Prelude.{◌≡◌, ◌+◌, ◌∷◌, [], IfOk, if◌then◌else◌};
 ghost use Rattle.ps_eval.specs.Cellwise.{IsCellwise, binary_row, cast_held, result_kind, ternary_row, unary_kind, unary_row};
 ghost use Rattle.ps_eval.specs.Held.{cells_of};
 ghost use Rattle.ps_eval.specs.Rows.{FillsRows, cell_for, cell_from, cells_from, repeats as repeats_in, seen};
@@ -20,11 +20,14 @@ pub fn cell_in_row(cells: &Cells, repeats: bool, row: usize) -> Result<&Value, D
     requires { FillsRows (cells_of cells.now) repeats (row + 1) }
     ensures { seen result ≡ cell_for (cells_of cells.now) repeats row }
 {
-    if repeats {
-        cells.cell(0)
-    } else {
-        cells.cell(row)
-    }
+    cells.cell(place_in_row(repeats, row))
+}
+
+/// The place of the cell that gives a row: the first where that one repeats.
+pub fn place_in_row(repeats: bool, row: usize) -> usize
+    ensures { result ≡ (if repeats then 0 else row) }
+{
+    if repeats { 0 } else { row }
 }
 
 /// Whether an operator compares its operands.
