@@ -1,4 +1,5 @@
 pub mod Agreement
+pub mod AtPlaces
 pub mod Evaluating
 pub mod KeptRows
 pub mod LaneRows

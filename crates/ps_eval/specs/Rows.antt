@@ -1,6 +1,7 @@
 -- Rows of what is held of operands side by side.
-use Rattle.std.specs.Prelude.{◌≡◌, ℕ, ◌≤◌, List, [], ◌∷◌, ◌++◌, map, length, Bool, true, false, Option, Some, None, Result, Ok, Err, if◌then◌else◌}
+use Rattle.std.specs.Prelude.{◌≡◌, ℕ, ◌<◌, ◌≤◌, List, [], ◌∷◌, ◌++◌, map, length, Bool, true, false, Option, Some, None, Result, Ok, Err, if◌then◌else◌}
 use Rattle.std.specs.Borrow.{Bor}
+use Rattle.std.specs.List.{All}
 use Rattle.ps_eval.specs.Held.{cell_at, cells_of, ending_of, first_bad, held_values, or_else}
 use Rattle.ps_eval.specs.Lengths.{ending_fault, extent_held}
 use Rattle.ps_eval.specs.declared.part.Part.{Part}
@@ -69,6 +70,11 @@ kept_value row = if is_true (at 1 row) then at 0 row ∷ [] else []
 abbrev pub kept_of : List (List Held) → List Value
 kept_of [] = []
 kept_of (row ∷ rows) = unless_bad (first_bad row) (kept_value (held_values row) ++ kept_of rows)
+
+-- at each of the places there is a cell, and these are their values
+pub record StandAt (hs : List Held) (places : List ℕ) (vs : List Value) : Type 0 where
+  pub there : All (λ i. i < length hs) places
+  pub values : map (cell_at hs) places ≡ map held.Val vs
 
 -- a column has the values of the first operand beside which the second is true, up to the first row with a faulty cell, and ends there or as the operands do side by side
 pub record IsKept (operands : List Part) (p : Part) : Type 0 where

@@ -1,5 +1,5 @@
 // Operators that go cell by cell over their operands side by side.
-ghost use Rattle.std.specs.Prelude.{◌≡◌, ◌+◌, ◌∷◌, [], IfOk};
+ghost use Rattle.std.specs.Prelude.{◌≡◌, ◌+◌, ◌∷◌, [], IfOk, if◌then◌else◌};
 ghost use Rattle.ps_eval.specs.Cellwise.{IsCellwise, binary_row, cast_held, result_kind, ternary_row, unary_kind, unary_row};
 ghost use Rattle.ps_eval.specs.Held.{cells_of};
 ghost use Rattle.ps_eval.specs.Rows.{FillsRows, cell_for, cell_from, cells_from, repeats as repeats_in, seen};
@@ -20,11 +20,14 @@ pub fn cell_in_row(cells: &Cells, repeats: bool, row: usize) -> Result<&Value, D
     requires { FillsRows (cells_of cells.now) repeats (row + 1) }
     ensures { seen result ≡ cell_for (cells_of cells.now) repeats row }
 {
-    if repeats {
-        cells.cell(0)
-    } else {
-        cells.cell(row)
-    }
+    cells.cell(place_in_row(repeats, row))
+}
+
+/// The place of the cell that gives a row: the first where that one repeats.
+pub fn place_in_row(repeats: bool, row: usize) -> usize
+    ensures { result ≡ (if repeats then 0 else row) }
+{
+    if repeats { 0 } else { row }
 }
 
 /// Whether an operator compares its operands.
@@ -62,12 +65,12 @@ pub fn binary_part(
 {
     let endings = [left.ending(), right.ending()];
     let rows = count_rows(&endings);
-    let cells = binary_cells(alloc, op, left, right, rows)?;
     let dtype = if compares(op) {
         DataType::Boolean
     } else {
         left.dtype
     };
+    let cells = binary_cells(alloc, op, dtype, left, right, rows)?;
     Ok(Part {
         dtype,
         cells,
@@ -78,6 +81,7 @@ pub fn binary_part(
 fn binary_cells(
     alloc: Global,
     op: Operator,
+    dtype: DataType,
     left: &Part,
     right: &Part,
     rows: usize,
@@ -88,13 +92,13 @@ fn binary_cells(
 {
     let left_repeats = left.repeats();
     let right_repeats = right.repeats();
-    let mut cells = Growing::with_capacity(alloc, rows)?;
+    let mut cells = Growing::new(alloc, dtype);
     for i in 0..rows {
         let a = cell_in_row(&left.cells, left_repeats, i);
         let b = cell_in_row(&right.cells, right_repeats, i);
         cells.push(alloc, binary_cell(op, a, b))?;
     }
-    Ok(cells.finish())
+    cells.finish(alloc)
 }
 
 fn binary_cell(
@@ -129,11 +133,11 @@ pub fn unary_part(alloc: Global, op: Unary, input: &Part) -> Result<Part, AllocE
 {
     let endings = [input.ending()];
     let rows = count_rows(&endings);
-    let cells = unary_cells(alloc, op, input, rows)?;
     let dtype = match op {
         Unary::Cast { dtype, strict: _ } => dtype,
         Unary::Not | Unary::IsNull | Unary::IsNotNull => DataType::Boolean,
     };
+    let cells = unary_cells(alloc, op, dtype, input, rows)?;
     Ok(Part {
         dtype,
         cells,
@@ -141,17 +145,23 @@ pub fn unary_part(alloc: Global, op: Unary, input: &Part) -> Result<Part, AllocE
     })
 }
 
-fn unary_cells(alloc: Global, op: Unary, input: &Part, rows: usize) -> Result<Cells, AllocError>
+fn unary_cells(
+    alloc: Global,
+    op: Unary,
+    dtype: DataType,
+    input: &Part,
+    rows: usize,
+) -> Result<Cells, AllocError>
     requires { FillsRows (cells_of input.now.cells) (repeats_in input.now) rows }
     ensures { IfOk result (λ cells. cells_of cells ≡ cells_from (unary_row op) (input.now ∷ []) rows) }
 {
     let repeats = input.repeats();
-    let mut cells = Growing::with_capacity(alloc, rows)?;
+    let mut cells = Growing::new(alloc, dtype);
     for i in 0..rows {
         let a = cell_in_row(&input.cells, repeats, i);
         cells.push(alloc, unary_cell(alloc, op, a)?)?;
     }
-    Ok(cells.finish())
+    cells.finish(alloc)
 }
 
 fn unary_cell(
@@ -231,14 +241,14 @@ fn ternary_cells(
     let predicate_repeats = predicate.repeats();
     let truthy_repeats = truthy.repeats();
     let falsy_repeats = falsy.repeats();
-    let mut cells = Growing::with_capacity(alloc, rows)?;
+    let mut cells = Growing::new(alloc, truthy.dtype);
     for i in 0..rows {
         let p = cell_in_row(&predicate.cells, predicate_repeats, i);
         let a = cell_in_row(&truthy.cells, truthy_repeats, i);
         let b = cell_in_row(&falsy.cells, falsy_repeats, i);
         cells.push(alloc, ternary_cell(alloc, p, a, b)?)?;
     }
-    Ok(cells.finish())
+    cells.finish(alloc)
 }
 
 fn ternary_cell(

@@ -1,16 +1,18 @@
 // Rows beside which a column is true.
-ghost use Rattle.std.specs.Prelude.{◌≡◌, ◌++◌, ◌∷◌, [], IfOk, MatchResult, None, OnOk, Some};
+ghost use Rattle.std.specs.Prelude.{◌≡◌, ◌++◌, ◌∷◌, [], IfOk, MatchResult, None, OnOk, Some, if◌then◌else◌};
 ghost use Rattle.ps_eval.specs.Held.{cells_of, first_bad, held_values, or_else};
-ghost use Rattle.ps_eval.specs.Rows.{FillsRows, IsKept, faulty_row, kept_of, kept_value, repeats as repeats_in, rows_of_parts, seen};
+ghost use Rattle.ps_eval.specs.Rows.{FillsRows, IsKept, StandAt, faulty_row, kept_of, repeats as repeats_in, rows_of_parts, seen};
+ghost use Rattle.ps_frame.specs.Values.{is_true};
 
-use crate::elementwise::cell_in_row;
+use crate::elementwise::{cell_in_row, place_in_row};
 use crate::lengths::{count_rows, early_fault};
-use crate::part::{Cells, Part, Values, copy_of};
+use crate::part::Part;
+use crate::places::cells_at;
 use ps_frame::value::{DataFault, Value};
 use std::alloc::{AllocError, Global};
 
 /// The values of a column in the rows where another one is true, up to the first row with a faulty
-/// cell.
+/// cell. Shared values stay shared.
 ///
 /// Fails only for want of memory.
 pub fn kept_part(alloc: Global, input: &Part, by: &Part) -> Result<Part, AllocError>
@@ -19,10 +21,10 @@ pub fn kept_part(alloc: Global, input: &Part, by: &Part) -> Result<Part, AllocEr
 {
     let endings = [input.ending(), by.ending()];
     let rows = count_rows(&endings);
-    let (values, fault) = kept_values(alloc, input, by, rows)?;
+    let (places, fault) = kept_places(alloc, input, by, rows)?;
     Ok(Part {
         dtype: input.dtype,
-        cells: Cells::Whole(Values::Owned(values)),
+        cells: cells_at(alloc, input, places.as_slice())?,
         fault: or_fault(early_fault(&endings), fault),
     })
 }
@@ -36,29 +38,31 @@ fn or_fault(first: Option<DataFault>, second: Option<DataFault>) -> Option<DataF
     }
 }
 
-fn kept_values(
+// The places of the cells in these rows, and the fault of the first row with a faulty cell.
+fn kept_places(
     alloc: Global,
     input: &Part,
     by: &Part,
     rows: usize,
-) -> Result<(Vec<Value>, Option<DataFault>), AllocError>
+) -> Result<(Vec<usize>, Option<DataFault>), AllocError>
     requires input { FillsRows (cells_of input.now.cells) (repeats_in input.now) rows }
     requires by { FillsRows (cells_of by.now.cells) (repeats_in by.now) rows }
-    ensures values { IfOk result (λ r. r.0.items ≡ kept_of (rows_of_parts (input.now ∷ by.now ∷ []) rows)) }
+    ensures places { IfOk result (λ r. StandAt (cells_of input.now.cells) r.0.items (kept_of (rows_of_parts (input.now ∷ by.now ∷ []) rows))) }
     ensures fault { IfOk result (λ r. r.1 ≡ faulty_row (rows_of_parts (input.now ∷ by.now ∷ []) rows)) }
 {
     let input_repeats = input.repeats();
     let by_repeats = by.repeats();
-    let mut values = Vec::new(alloc);
+    let mut places = Vec::new(alloc);
     for i in 0..rows {
         let a = cell_in_row(&input.cells, input_repeats, i);
         let b = cell_in_row(&by.cells, by_repeats, i);
+        let place = place_in_row(input_repeats, i);
         match both(a, b) {
-            Ok((value, mark)) => push_kept(alloc, &mut values, value, mark)?,
-            Err(fault) => return Ok((values, Some(fault))),
+            Ok((_value, mark)) => push_kept(&mut places, place, mark)?,
+            Err(fault) => return Ok((places, Some(fault))),
         }
     }
-    Ok((values, None))
+    Ok((places, None))
 }
 
 fn both<'a>(
@@ -74,16 +78,11 @@ fn both<'a>(
     }
 }
 
-fn push_kept(
-    alloc: Global,
-    values: &mut Vec<Value>,
-    value: &Value,
-    mark: &Value,
-) -> Result<(), AllocError>
-    ensures { OnOk result (values.new.items ≡ values.old.items ++ kept_value (value.now ∷ mark.now ∷ [])) }
+fn push_kept(places: &mut Vec<usize>, place: usize, mark: &Value) -> Result<(), AllocError>
+    ensures { OnOk result (places.new.items ≡ places.old.items ++ (if is_true mark.now then place ∷ [] else [])) }
 {
     if mark.is_true() {
-        values.push(copy_of(alloc, value)?)?;
+        places.push(place)?;
     }
     Ok(())
 }

@@ -4,23 +4,30 @@ ghost use Rattle.ps_eval.specs.Held.{cells_grown, cells_of};
 ghost use Rattle.ps_frame.specs.declared.value.Cell.TheVariants as held;
 
 use crate::part::{Cells, Values};
-use ps_frame::value::{Cell, DataFault, Value};
+use ps_frame::builder::ColumnBuilder;
+use ps_frame::column::Column;
+use ps_frame::value::{Cell, DataType, Value};
 use std::alloc::{AllocError, Global};
-use std::mem;
 
-/// Cells that grow at their end: values alone until the first faulty one comes.
+/// Cells that grow at their end: a column of a kind in the making, and from the first cell on that is
+/// faulty or of another kind the cells themselves.
 #[derive(Drop)]
-pub enum Growing {
-    Values(Vec<Value>),
-    Cells(Vec<Cell>),
+pub struct Growing {
+    dtype: DataType,
+    column: ColumnBuilder,
+    rest: Vec<Cell>,
 }
 
 impl Growing {
-    /// No cells, with room for so many. Fails only for want of memory.
-    pub fn with_capacity(alloc: Global, capacity: usize) -> Result<Growing, AllocError>
-        ensures { IfOk result (λ growing. cells_grown growing ≡ []) }
+    /// No cells yet, whose values are to be of this kind. They take no memory.
+    pub fn new(alloc: Global, dtype: DataType) -> Growing
+        ensures { cells_grown result ≡ [] }
     {
-        Ok(Growing::Values(Vec::with_capacity(alloc, capacity)?))
+        Growing {
+            dtype,
+            column: ColumnBuilder::new(alloc, dtype),
+            rest: Vec::new(alloc),
+        }
     }
 
     /// Adds a cell at the end. Fails only for want of memory.
@@ -28,48 +35,65 @@ impl Growing {
         ensures { OnOk result (cells_grown self.new ≡ cells_grown self.old ++ cell ∷ []) }
     {
         match cell {
-            Cell::Val(value) => self.push_value(value),
-            Cell::Bad(fault) => self.push_fault(alloc, fault),
+            Cell::Val(value) => self.push_value(alloc, value),
+            Cell::Bad(fault) => self.push_apart(Cell::Bad(fault)),
         }
     }
 
-    fn push_value(&mut self, value: Value) -> Result<(), AllocError>
+    fn push_value(&mut self, alloc: Global, value: Value) -> Result<(), AllocError>
         ensures { OnOk result (cells_grown self.new ≡ cells_grown self.old ++ held.Val value ∷ []) }
     {
-        match self {
-            Growing::Values(values) => values.push(value)?,
-            Growing::Cells(cells) => cells.push(Cell::Val(value))?,
+        if self.rest.is_empty() && value.fits(self.dtype) {
+            self.push_fitting(alloc, value)
+        } else {
+            self.push_apart(Cell::Val(value))
         }
+    }
+
+    fn push_fitting(&mut self, alloc: Global, value: Value) -> Result<(), AllocError>
+        requires { self.old.rest.items ≡ [] }
+        ensures { OnOk result (cells_grown self.new ≡ cells_grown self.old ++ held.Val value ∷ []) }
+    {
+        match self.column.push(alloc, value) {
+            Ok(()) => Ok(()),
+            Err(_) => Err(AllocError),
+        }
+    }
+
+    fn push_apart(&mut self, cell: Cell) -> Result<(), AllocError>
+        ensures { OnOk result (cells_grown self.new ≡ cells_grown self.old ++ cell ∷ []) }
+    {
+        self.rest.push(cell)?;
         Ok(())
     }
 
-    fn push_fault(&mut self, alloc: Global, fault: DataFault) -> Result<(), AllocError>
-        ensures { OnOk result (cells_grown self.new ≡ cells_grown self.old ++ held.Bad fault ∷ []) }
+    /// The cells. Fails only for want of memory.
+    pub fn finish(self, alloc: Global) -> Result<Cells, AllocError>
+        ensures { IfOk result (λ cells. cells_of cells ≡ cells_grown self) }
     {
-        let before = mem::replace(self, Growing::Cells(Vec::new(alloc)));
-        let mut cells = before.into_cells(alloc)?;
-        cells.push(Cell::Bad(fault))?;
-        *self = Growing::Cells(cells);
-        Ok(())
-    }
-
-    fn into_cells(self, alloc: Global) -> Result<Vec<Cell>, AllocError>
-        ensures { IfOk result (λ cells. cells.items ≡ cells_grown self) }
-    {
-        match self {
-            Growing::Values(values) => as_cells(alloc, values),
-            Growing::Cells(cells) => Ok(cells),
+        let Growing {
+            dtype: _,
+            column,
+            rest,
+        } = self;
+        let front = Cells::Whole(Values::Shared(finished(alloc, column)?));
+        if rest.is_empty() {
+            return Ok(front);
         }
-    }
-
-    /// The cells.
-    pub fn finish(self) -> Cells
-        ensures { cells_of result ≡ cells_grown self }
-    {
-        match self {
-            Growing::Values(values) => Cells::Whole(Values::Owned(values)),
-            Growing::Cells(cells) => Cells::Mixed(cells),
+        let mut cells = front.into_cells(alloc)?;
+        for cell in rest {
+            cells.push(cell)?;
         }
+        Ok(Cells::Mixed(cells))
+    }
+}
+
+fn finished(alloc: Global, column: ColumnBuilder) -> Result<Column, AllocError>
+    ensures { IfOk result (λ c. c ≡ column) }
+{
+    match column.finish(alloc) {
+        Ok(column) => Ok(column),
+        Err(_) => Err(AllocError),
     }
 }
 

@@ -8,6 +8,7 @@ pub mod filter;
 mod growing;
 pub mod lengths;
 pub mod part;
+mod places;
 pub mod sort_by;
 pub mod sources;
 #[cfg(test)]

@@ -1,9 +1,10 @@
 // The column of an expression while it is computed.
-ghost use Rattle.std.specs.Prelude.{◌≡◌, ◌<◌, drop, take, ◌++◌, ◌∷◌, [], length, get_or, map, option_copied, slice_get, IfOk, OnOk, MatchResult, Some, None};
+ghost use Rattle.std.specs.Prelude.{◌≡◌, ◌<◌, drop, take, ◌++◌, ◌∷◌, [], length, get_or, map, option_copied, slice_get, IfOk, IsTrue, OnOk, MatchResult, Some, None};
 ghost use Rattle.ps_eval.specs.Held.{Keeps, Settles, cell_at, cells_of, ending_of, first_bad, first_fault, held_values, values_of};
 ghost use Rattle.ps_eval.specs.Rows.{repeats as repeats_in, seen as seen_cell};
 ghost use Rattle.ps_frame.specs.Causes.{whole_column};
 ghost use Rattle.ps_frame.specs.Eval.{values_between};
+ghost use Rattle.ps_frame.specs.Typed.{all_fit};
 ghost use Rattle.ps_frame.specs.declared.value.Cell.TheVariants as held;
 
 use crate::growing::as_cells;
@@ -82,6 +83,20 @@ impl Values {
             Values::Owned(values) => Ok(values),
         }
     }
+
+    /// The column of these values, which are null or of the kind. A shared one of that kind is handed
+    /// out as it is.
+    ///
+    /// Fails only for want of memory.
+    pub fn into_column(self, alloc: Global, dtype: DataType) -> Result<Column, AllocError>
+        requires { IsTrue (all_fit dtype (values_of self)) }
+        ensures { IfOk result (λ column. column ≡ record { kind = dtype; values = values_of self }) }
+    {
+        match self {
+            Values::Shared(column) => column_in_kind(alloc, dtype, column),
+            Values::Owned(values) => column_of(alloc, dtype, values),
+        }
+    }
 }
 
 impl ValueList for Values {
@@ -107,6 +122,27 @@ fn shared_slice(
 {
     match column.slice(alloc, from, count) {
         Ok(part) => Ok(part),
+        Err(_) => Err(AllocError),
+    }
+}
+
+// The values of a column as a column of a kind: the same column where it has that kind.
+fn column_in_kind(alloc: Global, dtype: DataType, column: Column) -> Result<Column, AllocError>
+    requires { IsTrue (all_fit dtype column.values) }
+    ensures { IfOk result (λ c. c ≡ record { kind = dtype; values = column.values }) }
+{
+    if column.dtype() == dtype {
+        return Ok(column);
+    }
+    column_of(alloc, dtype, column_values(alloc, &column)?)
+}
+
+fn column_of(alloc: Global, dtype: DataType, values: Vec<Value>) -> Result<Column, AllocError>
+    requires { IsTrue (all_fit dtype values.items) }
+    ensures { IfOk result (λ column. column ≡ record { kind = dtype; values = values.items }) }
+{
+    match Column::new(alloc, dtype, values) {
+        Ok(column) => Ok(column),
         Err(_) => Err(AllocError),
     }
 }

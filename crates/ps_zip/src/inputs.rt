@@ -1,7 +1,7 @@
 // What a zip takes.
 ghost use Rattle.std.specs.Prelude.{◌≡◌, ◌≤◌, [], IfOk, IsSome, IsTrue, MatchResult, OnOk, Some, length, map};
 ghost use Rattle.std.specs.List.{AllByRecursion, AllZip};
-ghost use Rattle.ps_eval.specs.Held.{first_bad, values_of};
+ghost use Rattle.ps_eval.specs.Held.{first_bad};
 ghost use Rattle.ps_frame.specs.Aggregates.{max_rows};
 ghost use Rattle.ps_frame.specs.Frames.{broadcast_to, kinds_of};
 ghost use Rattle.ps_frame.specs.Lawful.{FitsFrame};
@@ -16,7 +16,7 @@ ghost use Rattle.ps_zip.specs.declared.inputs.Input.TheVariants as input;
 
 use ps_eval::evaluate::part_of;
 use ps_eval::lengths::Ending;
-use ps_eval::part::{Part, Values};
+use ps_eval::part::Part;
 use ps_frame::column::Column;
 use ps_frame::expr::{AExpr, entry};
 use ps_frame::frame::DataFrame;
@@ -81,21 +81,10 @@ fn computed_at_height(
     let outcome = part.settled(alloc)?;
     match outcome {
         Ok(values) => {
-            let column = column_of(alloc, dtype, values)?;
+            let column = values.into_column(alloc, dtype)?;
             Ok(Ok(repeated(alloc, &column, height)?))
         }
         Err(fault) => Ok(Err(fault)),
-    }
-}
-
-// A column of values of its kind.
-fn column_of(alloc: Global, dtype: DataType, values: Values) -> Result<Column, AllocError>
-    requires { IsTrue (all_fit dtype (values_of values)) }
-    ensures { IfOk result (λ column. column ≡ record { kind = dtype; values = values_of values }) }
-{
-    match Column::new(alloc, dtype, values.into_vec(alloc)?) {
-        Ok(column) => Ok(column),
-        Err(_) => Err(AllocError),
     }
 }
 
