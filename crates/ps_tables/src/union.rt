@@ -87,11 +87,7 @@ fn one_after_another(
     frame_of_height(alloc, schema, columns, height)
 }
 
-fn joined_columns(
-    alloc: Global,
-    inputs: &[DataFrame],
-    schema: &Schema,
-) -> PolarsResult<Vec<Column>>
+fn joined_columns(alloc: Global, inputs: &[DataFrame], schema: &Schema) -> PolarsResult<Vec<Column>>
     requires alike { AllByRecursion (λ (f : Frame). f.schema ≡ schema.now) inputs.now }
     ensures kinds { IfOk result (λ columns. HasKinds schema.now columns.items) }
     ensures values { IfOk result (λ columns. column_values columns.items ≡ map (λ i. values_at i (all_rows inputs.now)) (below (length schema.now))) }
