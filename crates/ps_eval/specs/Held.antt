@@ -1,6 +1,7 @@
 -- What the evaluation holds of a column: of the causes of a faulty cell the first, and of those that ended the column one.
-use Rattle.std.specs.Prelude.{◌≡◌, ℕ, List, [], ◌∷◌, ◌++◌, map, filter_map, length, get_or, Option, Some, None, Result, Ok, Err}
+use Rattle.std.specs.Prelude.{◌≡◌, ℕ, List, [], ◌∷◌, map, filter_map, length, get_or, Option, Some, None, Result, Ok, Err}
 use Rattle.ps_eval.specs.declared.growing.Growing.{Growing}
+use Rattle.ps_eval.specs.declared.growing.Growing.TheVariants as growing
 use Rattle.ps_eval.specs.declared.lengths.Ending.{Ending}
 use Rattle.ps_eval.specs.declared.part.Cells.{Cells}
 use Rattle.ps_eval.specs.declared.part.Cells.TheVariants as cells
@@ -27,7 +28,9 @@ cells_of (cells.Mixed v) = v.items
 
 -- the cells that were added so far
 abbrev pub cells_grown : Growing → List Held
-cells_grown g = map held.Val g.column.values ++ g.rest.items
+cells_grown (growing.Column b k) = map held.Val b.values
+cells_grown (growing.Values v) = map held.Val v.items
+cells_grown (growing.Cells v) = v.items
 
 -- the cell at a place, and null where there is none
 abbrev pub cell_at : List Held → ℕ → Held

@@ -51,6 +51,14 @@ pub fn compares(op: Operator) -> bool
     }
 }
 
+// Whether most results of an operator are likely to differ.
+fn computes(op: Operator) -> bool {
+    matches!(
+        op,
+        Operator::Plus | Operator::Minus | Operator::Multiply | Operator::FloorDivide
+    )
+}
+
 /// What an operator of two operands gives, row by row.
 ///
 /// Fails only for want of memory.
@@ -92,7 +100,11 @@ fn binary_cells(
 {
     let left_repeats = left.repeats();
     let right_repeats = right.repeats();
-    let mut cells = Growing::new(alloc, dtype);
+    let mut cells = if computes(op) {
+        Growing::of_many(alloc, rows)?
+    } else {
+        Growing::of_few(alloc, dtype)
+    };
     for i in 0..rows {
         let a = cell_in_row(&left.cells, left_repeats, i);
         let b = cell_in_row(&right.cells, right_repeats, i);
@@ -156,7 +168,7 @@ fn unary_cells(
     ensures { IfOk result (λ cells. cells_of cells ≡ cells_from (unary_row op) (input.now ∷ []) rows) }
 {
     let repeats = input.repeats();
-    let mut cells = Growing::new(alloc, dtype);
+    let mut cells = Growing::of_few(alloc, dtype);
     for i in 0..rows {
         let a = cell_in_row(&input.cells, repeats, i);
         cells.push(alloc, unary_cell(alloc, op, a)?)?;
@@ -241,7 +253,7 @@ fn ternary_cells(
     let predicate_repeats = predicate.repeats();
     let truthy_repeats = truthy.repeats();
     let falsy_repeats = falsy.repeats();
-    let mut cells = Growing::new(alloc, truthy.dtype);
+    let mut cells = Growing::of_few(alloc, truthy.dtype);
     for i in 0..rows {
         let p = cell_in_row(&predicate.cells, predicate_repeats, i);
         let a = cell_in_row(&truthy.cells, truthy_repeats, i);

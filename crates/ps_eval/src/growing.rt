@@ -1,6 +1,7 @@
 // Cells that grow at their end.
 ghost use Rattle.std.specs.Prelude.{◌≡◌, ◌++◌, ◌∷◌, [], map, IfOk, OnOk};
 ghost use Rattle.ps_eval.specs.Held.{cells_grown, cells_of};
+ghost use Rattle.ps_frame.specs.Pushed.{with_value};
 ghost use Rattle.ps_frame.specs.declared.value.Cell.TheVariants as held;
 
 use crate::part::{Cells, Values};
@@ -8,26 +9,32 @@ use ps_frame::builder::ColumnBuilder;
 use ps_frame::column::Column;
 use ps_frame::value::{Cell, DataType, Value};
 use std::alloc::{AllocError, Global};
+use std::mem;
 
-/// Cells that grow at their end: a column of a kind in the making, and from the first cell on that is
-/// faulty or of another kind the cells themselves.
+/// Cells that grow at their end: values of a kind of which few differ, or values of which most do, alone
+/// until the first cell comes that is faulty or not of that kind.
 #[derive(Drop)]
-pub struct Growing {
-    dtype: DataType,
-    column: ColumnBuilder,
-    rest: Vec<Cell>,
+pub enum Growing {
+    Column(ColumnBuilder, DataType),
+    Values(Vec<Value>),
+    Cells(Vec<Cell>),
 }
 
 impl Growing {
-    /// No cells yet, whose values are to be of this kind. They take no memory.
-    pub fn new(alloc: Global, dtype: DataType) -> Growing
+    /// No cells yet, whose values are to be of this kind, and few of which are likely to differ. They take
+    /// no memory.
+    pub fn of_few(alloc: Global, dtype: DataType) -> Growing
         ensures { cells_grown result ≡ [] }
     {
-        Growing {
-            dtype,
-            column: ColumnBuilder::new(alloc, dtype),
-            rest: Vec::new(alloc),
-        }
+        Growing::Column(ColumnBuilder::new(alloc, dtype), dtype)
+    }
+
+    /// No cells yet, with room for so many values, most of which are likely to differ. Fails only for want
+    /// of memory.
+    pub fn of_many(alloc: Global, capacity: usize) -> Result<Growing, AllocError>
+        ensures { IfOk result (λ growing. cells_grown growing ≡ []) }
+    {
+        Ok(Growing::Values(Vec::with_capacity(alloc, capacity)?))
     }
 
     /// Adds a cell at the end. Fails only for want of memory.
@@ -36,55 +43,75 @@ impl Growing {
     {
         match cell {
             Cell::Val(value) => self.push_value(alloc, value),
-            Cell::Bad(fault) => self.push_apart(Cell::Bad(fault)),
+            Cell::Bad(fault) => self.push_apart(alloc, Cell::Bad(fault)),
         }
     }
 
     fn push_value(&mut self, alloc: Global, value: Value) -> Result<(), AllocError>
         ensures { OnOk result (cells_grown self.new ≡ cells_grown self.old ++ held.Val value ∷ []) }
     {
-        if self.rest.is_empty() && value.fits(self.dtype) {
-            self.push_fitting(alloc, value)
-        } else {
-            self.push_apart(Cell::Val(value))
+        if !self.takes(&value) {
+            return self.push_apart(alloc, Cell::Val(value));
+        }
+        match self {
+            Growing::Column(column, _) => push_in(alloc, column, value)?,
+            Growing::Values(values) => values.push(value)?,
+            Growing::Cells(cells) => cells.push(Cell::Val(value))?,
+        }
+        Ok(())
+    }
+
+    // Whether a value may stand among the others as it is.
+    fn takes(&self, value: &Value) -> bool {
+        match self {
+            Growing::Column(_, dtype) => value.fits(*dtype),
+            Growing::Values(_) | Growing::Cells(_) => true,
         }
     }
 
-    fn push_fitting(&mut self, alloc: Global, value: Value) -> Result<(), AllocError>
-        requires { self.old.rest.items ≡ [] }
-        ensures { OnOk result (cells_grown self.new ≡ cells_grown self.old ++ held.Val value ∷ []) }
-    {
-        match self.column.push(alloc, value) {
-            Ok(()) => Ok(()),
-            Err(_) => Err(AllocError),
-        }
-    }
-
-    fn push_apart(&mut self, cell: Cell) -> Result<(), AllocError>
+    // Adds a cell, and holds all of them as cells from here on.
+    fn push_apart(&mut self, alloc: Global, cell: Cell) -> Result<(), AllocError>
         ensures { OnOk result (cells_grown self.new ≡ cells_grown self.old ++ cell ∷ []) }
     {
-        self.rest.push(cell)?;
+        let before = mem::replace(self, Growing::Cells(Vec::new(alloc)));
+        let mut cells = before.into_cells(alloc)?;
+        cells.push(cell)?;
+        *self = Growing::Cells(cells);
         Ok(())
+    }
+
+    fn into_cells(self, alloc: Global) -> Result<Vec<Cell>, AllocError>
+        ensures { IfOk result (λ cells. cells.items ≡ cells_grown self) }
+    {
+        match self {
+            Growing::Column(column, _) => {
+                Cells::Whole(Values::Shared(finished(alloc, column)?)).into_cells(alloc)
+            }
+            Growing::Values(values) => as_cells(alloc, values),
+            Growing::Cells(cells) => Ok(cells),
+        }
     }
 
     /// The cells. Fails only for want of memory.
     pub fn finish(self, alloc: Global) -> Result<Cells, AllocError>
         ensures { IfOk result (λ cells. cells_of cells ≡ cells_grown self) }
     {
-        let Growing {
-            dtype: _,
-            column,
-            rest,
-        } = self;
-        let front = Cells::Whole(Values::Shared(finished(alloc, column)?));
-        if rest.is_empty() {
-            return Ok(front);
+        match self {
+            Growing::Column(column, _) => {
+                Ok(Cells::Whole(Values::Shared(finished(alloc, column)?)))
+            }
+            Growing::Values(values) => Ok(Cells::Whole(Values::Owned(values))),
+            Growing::Cells(cells) => Ok(Cells::Mixed(cells)),
         }
-        let mut cells = front.into_cells(alloc)?;
-        for cell in rest {
-            cells.push(cell)?;
-        }
-        Ok(Cells::Mixed(cells))
+    }
+}
+
+fn push_in(alloc: Global, column: &mut ColumnBuilder, value: Value) -> Result<(), AllocError>
+    ensures { OnOk result (column.new ≡ with_value column.old value) }
+{
+    match column.push(alloc, value) {
+        Ok(()) => Ok(()),
+        Err(_) => Err(AllocError),
     }
 }
 

@@ -43,7 +43,7 @@ fn copied_at(
     requires { All (λ i. i < length (cells_of cells.now)) places.now }
     ensures { IfOk result (λ copies. cells_of copies ≡ map (cell_at (cells_of cells.now)) places.now) }
 {
-    let mut copies = Growing::new(alloc, dtype);
+    let mut copies = Growing::of_few(alloc, dtype);
     for place in places {
         copies.push(alloc, copied(alloc, cells.cell(*place))?)?;
     }
