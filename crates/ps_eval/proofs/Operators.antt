@@ -1,11 +1,11 @@
 -- What each operator gives of what is computed of its operands is computed of its expression.
-use Rattle.std.proofs.Common.{◌≡◌, ℕ, suc, ◌+◌, List, [], ◌∷◌, length, Bool, true, false, refl, subst, sym, ◌∙◌, ap}
+use Rattle.std.proofs.Common.{◌≡◌, ℕ, suc, List, [], ◌∷◌, length, Bool, true, false, refl, subst, sym, ◌∙◌, ap}
 use Rattle.std.specs.Prelude.{not, ◌&&◌, ◌||◌, ◌==◌, IsSome, IfOk, Option, Some, None, Result, if◌then◌else◌}
 use Rattle.std.specs.List.{AllZip}
 use Rattle.std.specs.declared.alloc.AllocError.{AllocError}
 use Rattle.ps_eval.specs.Cellwise.{IsCellwise, binary_row, result_kind, ternary_row, unary_row}
 use Rattle.ps_eval.specs.Evaluations.{EvaluateAll, Evaluates}
-use Rattle.ps_eval.specs.Held.{Keeps, held_cell}
+use Rattle.ps_eval.specs.Held.{Keeps}
 use Rattle.ps_eval.specs.Rows.{IsKept}
 use Rattle.ps_eval.specs.Wholes.{IsOfWhole, aggregated_kind, aggregates, gathers, slices, sorts}
 use Rattle.ps_eval.specs.declared.elementwise.Unary.TheVariants as unary
@@ -21,13 +21,12 @@ use Rattle.ps_frame.specs.Operators.{binary_value, cast_cell, cast_value, choice
 use Rattle.ps_frame.specs.Sorting.{directions_of}
 use Rattle.ps_frame.specs.Tables.{Frame, whole}
 use Rattle.ps_frame.specs.Trees.{Aggregation, Tree, Trees}
-use Rattle.ps_frame.specs.Typing.{aggregate_kind, binary_kind, branch_kind, can_cast, cast_kind, compares, fits_keys, have_kinds, is_kind, is_scalar, kind_if, kind_over, sum_kind, takes_kinds, tree_count}
+use Rattle.ps_frame.specs.Typing.{aggregate_kind, binary_kind, branch_kind, can_cast, cast_kind, fits_keys, have_kinds, is_kind, is_scalar, kind_if, kind_over, sum_kind, takes_kinds, tree_count}
 use Rattle.ps_frame.specs.Values.{same_kind}
 use Rattle.ps_frame.specs.Zip.{zipped}
 use Rattle.ps_frame.specs.declared.expr.Operator.{Operator}
 use Rattle.ps_frame.specs.declared.value.DataType.{DataType}
 use Rattle.ps_frame.specs.declared.value.DataType.TheVariants as kind
-use Rattle.ps_frame.specs.declared.value.Value.{Value}
 
 -- of an expression whose tree is known
 pub known : (f : Frame) (t u : Tree) (x : Result Part AllocError) → t ≡ u → IsSome (kind_over f.schema t) → (IsSome (kind_over f.schema u) → IfOk x (Evaluates f u)) → IfOk x (Evaluates f t)

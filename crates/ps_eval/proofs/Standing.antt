@@ -1,5 +1,5 @@
 -- What is written out of what is held of a column stands for the column.
-use Rattle.std.proofs.Common.{◌≡◌, List, [], ◌∷◌, true, false, refl, subst, sym, ◌∙◌, ap, inl}
+use Rattle.std.proofs.Common.{◌≡◌, List, [], ◌∷◌, refl, subst, sym, ◌∙◌, ap, inl}
 use Rattle.std.specs.Prelude.{map, option_to_list, Option, Some, None}
 use Rattle.std.specs.List.{AllZip}
 use Rattle.ps_eval.specs.Held.{IsOneOf, Keeps, cells_of, held_cell}

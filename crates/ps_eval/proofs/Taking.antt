@@ -1,13 +1,13 @@
 -- Where an expression has a kind, so has what it takes.
-use Rattle.std.proofs.Common.{◌≡◌, ℕ, zero, suc, ◌+◌, ◌<◌, ◌≤◌, List, [], ◌∷◌, ◌++◌, length, get_or, take, Bool, true, false, refl, subst, sym, ◌∙◌, ap, arith, add-one}
-use Rattle.std.specs.Prelude.{not, ◌&&◌, ◌||◌, ◌==◌, is_some, IsSome, IsTrue, Option, Some, None, if◌then◌else◌}
+use Rattle.std.proofs.Common.{◌≡◌, ℕ, zero, suc, ◌+◌, ◌<◌, ◌≤◌, List, [], ◌∷◌, ◌++◌, length, get_or, take, Bool, true, false, refl, subst, sym, arith}
+use Rattle.std.specs.Prelude.{not, ◌&&◌, ◌||◌, ◌==◌, is_some, IsSome, IsTrue, Option, Some, None}
 use Rattle.std.proofs.lemmas.List.{take_more}
 use Rattle.ps_eval.specs.Evaluations.{EvaluateAll, Evaluates, TakesKinds}
 use Rattle.ps_eval.specs.Wholes.{aggregated_of, aggregation_of}
 use Rattle.ps_eval.specs.declared.part.Part.{Part}
 use Rattle.ps_frame.proofs.Lists.{both}
-use Rattle.ps_frame.specs.Tables.{Fields, Frame, field_kind}
-use Rattle.ps_frame.specs.Trees.{Aggregation, AreComplete, IsComplete, Tree, Trees, aggregate_tree, entry_tree, tree_size, trees_of, trees_size}
+use Rattle.ps_frame.specs.Tables.{Fields, Frame}
+use Rattle.ps_frame.specs.Trees.{Aggregation, AreComplete, IsComplete, Tree, aggregate_tree, entry_tree, tree_size, trees_of, trees_size}
 use Rattle.ps_frame.specs.Typing.{aggregate_kind, binary_kind, branch_kind, cast_kind, fits_keys, function_kind, have_kinds, is_kind, is_scalar, kind_if, kind_over, sum_kind, tree_count}
 use Rattle.ps_frame.specs.declared.expr.AExpr.{AExpr}
 use Rattle.ps_frame.specs.declared.expr.AExpr.TheVariants as entry

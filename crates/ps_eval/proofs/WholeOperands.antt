@@ -1,6 +1,6 @@
 -- What is made of whole columns is held of what the definition makes of them.
 use Rattle.std.proofs.Common.{◌≡◌, ℕ, Bool, arith, inr, List, [], ◌∷◌, true, false, refl, subst, sym, ◌∙◌, ap, inl, append-nil}
-use Rattle.std.specs.Prelude.{map, flat_map, Option, Some, None, Result, Ok, Err, ℤ, pos, negsuc, ◌+ℤ◌, ◌≤ℤ◌, ◌<ℤ◌, nat_lt, get_or, length, if◌then◌else◌}
+use Rattle.std.specs.Prelude.{map, flat_map, Option, Some, None, Result, Ok, Err, ℤ, pos, negsuc, ◌+ℤ◌, ◌≤ℤ◌, nat_lt, get_or, length, if◌then◌else◌}
 use Rattle.std.specs.List.{AllZip, list_any}
 use Rattle.std.proofs.lemmas.Int.{ints}
 use Rattle.ps_eval.specs.Held.{IsOneOf, Keeps, Settles, cells_of, first_bad, first_fault, held_cell, held_values, or_else, values_of}
@@ -9,7 +9,7 @@ use Rattle.ps_eval.specs.declared.part.Part.{Part}
 use Rattle.ps_eval.specs.declared.part.Values.{Values}
 use Rattle.ps_eval.proofs.Zips.{first-bad, head_fault, map-map, one_of-left, one_of-right, some-ended, values-held}
 use Rattle.ps_frame.specs.Causes.{Cause, Column, cell_causes, cell_values, column_causes, has_cause, is_empty, value, whole_column, faulty}
-use Rattle.ps_frame.specs.Eval.{from_whole, clipped, no_slice, picked, picked_at, slice_column, slice_start, values_between, at}
+use Rattle.ps_frame.specs.Eval.{from_whole, clipped, picked, picked_at, slice_column, slice_start, values_between, at}
 use Rattle.ps_frame.specs.Evaluated.{IsFaultOf, Holds}
 use Rattle.ps_frame.specs.declared.value.Cell.{Cell as Held}
 use Rattle.ps_frame.specs.declared.value.Cell.TheVariants as held

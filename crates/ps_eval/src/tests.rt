@@ -1,6 +1,9 @@
-// Aggregates of 1, null and 3.
+// Aggregates and orders of 1, null and 3, and columns that are shared.
 use crate::aggregate::aggregated_part;
-use crate::part::{Cells, Part, whole_part};
+use crate::elementwise::{Unary, unary_part};
+use crate::filter::kept_part;
+use crate::part::{Cells, Part, Values, whole_part};
+use crate::sort_by::sorted_by_part;
 use crate::whole::reversed_part;
 use ps_frame::expr::IRAggExpr;
 use ps_frame::value::{DataType, Value};
@@ -62,5 +65,28 @@ fn aggregates_of_one_null_and_three(rt: HostRuntime) -> Result<(), Fail> {
     );
     let turned = reversed_part(rt.alloc(), numbers(rt.alloc())?)?;
     assert_eq!(rt; first_int(&turned), Some(3));
+    Ok(())
+}
+
+fn is_shared(part: &Part) -> bool {
+    matches!(&part.cells, Cells::Whole(Values::Shared(_)))
+}
+
+#[test]
+fn what_is_computed_and_kept_is_shared(rt: HostRuntime) -> Result<(), Fail> {
+    let known = unary_part(rt.alloc(), Unary::IsNotNull, &numbers(rt.alloc())?)?;
+    assert!(rt; is_shared(&known));
+    let kept = kept_part(rt.alloc(), &known, &known)?;
+    assert!(rt; is_shared(&kept));
+    assert_eq!(rt; kept.cells.len(), 2);
+    Ok(())
+}
+
+#[test]
+fn the_greatest_of_themselves_goes_first(rt: HostRuntime) -> Result<(), Fail> {
+    let mut keys = Vec::new(rt.alloc());
+    keys.push(numbers(rt.alloc())?)?;
+    let sorted = sorted_by_part(rt.alloc(), &[true], &[true], numbers(rt.alloc())?, keys)?;
+    assert_eq!(rt; first_int(&sorted), Some(3));
     Ok(())
 }
