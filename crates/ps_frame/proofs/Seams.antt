@@ -1,5 +1,5 @@
 -- Lists one after another, and what stands on both sides of a seam.
-use Rattle.std.proofs.Common.{◌≡◌, ℕ, zero, suc, ◌<◌, ◌≤◌, ◌-◌, ◌+◌, List, [], ◌∷◌, ◌++◌, length, take, drop, refl, sym, ◌∙◌, ap, subst, arith, append_assoc, append-nil, length-append, add-one}
+use Rattle.std.proofs.Common.{◌≡◌, ℕ, zero, suc, ◌<◌, ◌≤◌, ◌-◌, ◌+◌, List, [], ◌∷◌, ◌++◌, length, get_or, take, drop, refl, sym, ◌∙◌, ap, subst, arith, append_assoc, append-nil, length-append, add-one}
 use Rattle.std.specs.Prelude.{Some, slice_get}
 use Rattle.std.proofs.lemmas.Option.{same_Some}
 use Rattle.ps_frame.specs.EndToEnd.{end_to_end}
@@ -80,3 +80,8 @@ module _ {A : Type 0} where
       ap (λ l. first ++ end_to_end l) (g ∙ ap (λ l. l ++ more) (f ∙ ap (λ l. l ++ second ∷ []) e))
       ∙ ap (λ l. first ++ l) (end_to_end-append (rest ++ second ∷ []) more ∙ ap (λ l. l ++ end_to_end more) (end_to_end-push rest (rest ++ second ∷ []) second refl) ∙ append_assoc (end_to_end rest) second (end_to_end more))
       ∙ sym (append_assoc first (end_to_end rest) (second ++ end_to_end more))
+
+  -- lists of which the first is taken out
+  pub end_to_end-taken : (first taken : List A) (rest new : List (List A)) → first ≡ [] → 0 < length rest → taken ≡ get_or rest 0 taken → new ≡ take 0 rest ++ drop 1 rest → taken ++ end_to_end new ≡ first ++ end_to_end rest
+  end_to_end-taken first taken [] new e h is made = absurd (omega arith)
+  end_to_end-taken first taken (xs ∷ rest) new e h is made = ap (λ l. taken ++ end_to_end l) made ∙ ap (λ l. l ++ end_to_end rest) is ∙ ap (λ l. l ++ (xs ++ end_to_end rest)) (sym e)

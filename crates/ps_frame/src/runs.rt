@@ -109,7 +109,20 @@ impl<T: Drop> Runs<T> {
         let mut rest = Vec::new(alloc);
         push_slices(&mut rest, self.rest.as_slice(), skip, left)?;
         let len = length.min(self.len - offset.min(self.len));
-        Ok(Runs { first, rest, len })
+        Ok(Runs::of_parts(first, rest, len))
+    }
+
+    // These runs; an empty first one is left out where another one follows.
+    fn of_parts(first: Run<T>, rest: Vec<Run<T>>, len: usize) -> Runs<T>
+        requires { len ≡ length (first ++ end_to_end rest.items) }
+        ensures { result ≡ first ++ end_to_end rest.items }
+    {
+        if !first.is_empty() || rest.is_empty() {
+            return Runs { first, rest, len };
+        }
+        let mut rest = rest;
+        let first = rest.remove(0);
+        Runs { first, rest, len }
     }
 
     /// These runs and then others; none of their items is copied. None where they would be more

@@ -291,9 +291,10 @@ fn few_values_stand_in_many_cells(rt: HostRuntime) -> Result<(), Fail> {
 }
 
 #[test]
-fn many_values_stand_in_as_many_cells(rt: HostRuntime) -> Result<(), Fail> {
+fn many_values_that_repeat_are_held_once(rt: HostRuntime) -> Result<(), Fail> {
     let column = repeating(rt.alloc(), 10000, 6000)?;
     assert_eq!(rt; column.len(), 12000);
+    assert!(rt; !column.is_wide());
     assert!(rt; has_index(&column, 1, Some(1)) && has_index(&column, 5999, None));
     assert!(rt; has_index(&column, 7198, Some(5999)) && has_index(&column, 7200, Some(0)));
     assert!(rt; has_index(&column, 11998, Some(3999)));
@@ -325,5 +326,93 @@ fn a_builder_refuses_another_kind(rt: HostRuntime) -> Result<(), Fail> {
     let column = builder.finish(rt.alloc())?;
     assert_eq!(rt; column.len(), 3);
     assert!(rt; has_text(&column, 1, "words") && has_text(&column, 2, "few"));
+    Ok(())
+}
+
+// That many numbers that all differ, from the first on.
+fn numbered(alloc: Global, first: u32, count: u32) -> Result<Column, FrameError> {
+    let mut builder = ColumnBuilder::new(alloc, DataType::IdxSize);
+    for i in 0..count {
+        builder.push(alloc, Value::IdxSize(first.saturating_add(i)))?;
+    }
+    builder.finish(alloc)
+}
+
+fn below(alloc: Global, upper: &Column, lower: &Column) -> Result<Column, FrameError> {
+    if upper.dtype() != lower.dtype() {
+        return Err(FrameError::Kind);
+    }
+    upper.append(alloc, lower)
+}
+
+// The values at two places, in this order.
+fn picked(alloc: Global, column: &Column, a: usize, b: usize) -> Result<Column, FrameError> {
+    if a >= column.len() || b >= column.len() {
+        return Err(FrameError::Height);
+    }
+    column.gather(alloc, &[a, b])
+}
+
+// The values from a place on.
+fn kept_from(alloc: Global, column: &Column, from: usize) -> Result<Column, FrameError> {
+    let mut marks = Vec::new(alloc);
+    for i in 0..column.len() {
+        marks.push(Value::Boolean(i >= from))?;
+    }
+    if marks.len() != column.len() {
+        return Err(FrameError::Height);
+    }
+    column.keep(alloc, marks.as_slice())
+}
+
+#[test]
+fn long_columns_share_their_runs(rt: HostRuntime) -> Result<(), Fail> {
+    let upper = numbered(rt.alloc(), 0, 5000)?;
+    let lower = numbered(rt.alloc(), 70_000, 6000)?;
+    let both = below(rt.alloc(), &upper, &lower)?;
+    assert_eq!(rt; both.count_runs(), 2);
+    assert_eq!(rt; both.len(), 11_000);
+    assert!(rt; has_index(&both, 4999, Some(4999)) && has_index(&both, 5000, Some(70_000)));
+    let part = both.slice(rt.alloc(), 4999, 2)?;
+    let run = part.run(rt.alloc())?;
+    assert!(rt;
+        matches!(
+            run.as_slice(),
+            [Value::IdxSize(4999), Value::IdxSize(70_000)]
+        )
+    );
+    let end = both.slice(rt.alloc(), 10_000, 5000)?;
+    assert_eq!(rt; end.count_runs(), 1);
+    assert_eq!(rt; end.len(), 1000);
+    assert!(rt; has_index(&end, 999, Some(75_999)));
+    let turned = picked(rt.alloc(), &both, 5000, 4999)?;
+    assert!(rt; has_index(&turned, 0, Some(70_000)) && has_index(&turned, 1, Some(4999)));
+    let kept = kept_from(rt.alloc(), &both, 4999)?;
+    assert!(rt; has_index(&kept, 0, Some(4999)) && has_index(&kept, 1, Some(70_000)));
+    let four = twice(rt.alloc(), &both)?;
+    assert_eq!(rt; four.count_runs(), 4);
+    assert!(rt; has_index(&four, 10_999, Some(75_999)) && has_index(&four, 11_000, Some(0)));
+    Ok(())
+}
+
+#[test]
+fn a_builder_takes_whole_columns(rt: HostRuntime) -> Result<(), Fail> {
+    let long = numbered(rt.alloc(), 0, 5000)?;
+    let few = repeating(rt.alloc(), 2000, 7)?;
+    let mut builder = ColumnBuilder::new(rt.alloc(), DataType::IdxSize);
+    builder.push(rt.alloc(), Value::IdxSize(9))?;
+    let mut builder = builder.with_column(rt.alloc(), &long)?;
+    builder.push(rt.alloc(), Value::Null)?;
+    let builder = builder.with_column(rt.alloc(), &few)?;
+    let column = builder.with_column(rt.alloc(), &long)?.finish(rt.alloc())?;
+    assert_eq!(rt; column.count_runs(), 4);
+    assert_eq!(rt; column.len(), 12_402);
+    assert!(rt; has_index(&column, 0, Some(9)) && has_index(&column, 1, Some(0)));
+    assert!(rt; has_index(&column, 5000, Some(4999)) && has_index(&column, 5001, None));
+    assert!(rt; has_index(&column, 5002, Some(0)) && has_index(&column, 5007, None));
+    assert!(rt; has_index(&column, 7402, Some(0)) && has_index(&column, 12_401, Some(4999)));
+    let texts = ColumnBuilder::new(rt.alloc(), DataType::String);
+    let refused = texts.with_column(rt.alloc(), &long);
+    assert!(rt; matches!(refused, Err(FrameError::Kind)));
     Ok(())
 }
