@@ -11,19 +11,21 @@ TIMES = {'share': 1000, 'slice': 1000, 'filter': 10, 'filter_all': 10, 'vstack':
 RUNS = 3
 
 
+def run(command, document=None):
+    """The processor seconds and the peak memory, in MB, of one run."""
+    if document:
+        document.seek(0)
+    process = subprocess.Popen(command, stdin=document, stdout=subprocess.DEVNULL, stderr=subprocess.DEVNULL)
+    _, status, usage = os.wait4(process.pid, 0)
+    process.returncode = os.waitstatus_to_exitcode(status)
+    assert process.returncode == 0, 'the program failed'
+    return usage.ru_utime + usage.ru_stime, usage.ru_maxrss / 1024
+
+
 def measure(command, document=None):
-    best, memory = None, 0
-    for _ in range(RUNS):
-        if document:
-            document.seek(0)
-        process = subprocess.Popen(command, stdin=document, stdout=subprocess.DEVNULL, stderr=subprocess.DEVNULL)
-        _, status, usage = os.wait4(process.pid, 0)
-        seconds = usage.ru_utime + usage.ru_stime
-        process.returncode = os.waitstatus_to_exitcode(status)
-        assert process.returncode == 0, 'the program failed'
-        best = seconds if best is None else min(best, seconds)
-        memory = max(memory, usage.ru_maxrss)
-    return best, memory / 1024
+    """The same, the least seconds and the greatest peak of several runs."""
+    runs = [run(command, document) for _ in range(RUNS)]
+    return min(seconds for seconds, _ in runs), max(megabytes for _, megabytes in runs)
 
 
 def show(name, seconds, megabytes):
