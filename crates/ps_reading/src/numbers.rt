@@ -1,5 +1,5 @@
 // The numbers that tokens write.
-ghost use Rattle.std.specs.Prelude.{◌≡◌, ◌<◌, Some, IsTrue, true, false, ◌==◌, length, slice_index, IfSome, FitsSigned};
+ghost use Rattle.std.specs.Prelude.{◌≡◌, ◌≢◌, ◌<◌, ℕ, ℤ, Some, IsTrue, true, false, ◌==◌, length, slice_index, IfNone, IfSome, FitsSigned};
 ghost use Rattle.std.specs.Int.{w64};
 ghost use Rattle.serde_json.specs.Data.{unsigned};
 ghost use Rattle.serde_json.specs.Find.{of_integer};
@@ -9,7 +9,8 @@ use fast_float::Numeral;
 
 /// The number of 64 bits that a text writes, where it writes one that isn't below 0.
 pub fn count_of(text: &str) -> Option<u64>
-    ensures { IfSome result (λ n. number_of text.now ≡ Some (unsigned n)) }
+    ensures some { IfSome result (λ n. number_of text.now ≡ Some (unsigned n)) }
+    ensures none { IfNone result ((n : ℕ) → number_of text.now ≢ Some (unsigned n)) }
 {
     let bytes = text.as_bytes();
     if has_minus(bytes) {
@@ -20,7 +21,8 @@ pub fn count_of(text: &str) -> Option<u64>
 }
 
 fn unsigned_of(numeral: &Numeral<'_>) -> Option<u64>
-    ensures { IfSome result (λ n. number_from false numeral.now ≡ Some (unsigned n)) }
+    ensures some { IfSome result (λ n. number_from false numeral.now ≡ Some (unsigned n)) }
+    ensures none { IfNone result ((n : ℕ) → number_from false numeral.now ≢ Some (unsigned n)) }
 {
     numeral.to_u64()
 }
@@ -29,6 +31,7 @@ fn unsigned_of(numeral: &Numeral<'_>) -> Option<u64>
 pub fn whole_number_of(text: &str) -> Option<i64>
     ensures number { IfSome result (λ z. number_of text.now ≡ Some (of_integer z)) }
     ensures in_range { IfSome result (FitsSigned w64) }
+    ensures none { IfNone result ((z : ℤ) → FitsSigned w64 z → number_of text.now ≢ Some (of_integer z)) }
 {
     let bytes = text.as_bytes();
     if has_minus(bytes) {
@@ -41,6 +44,7 @@ pub fn whole_number_of(text: &str) -> Option<i64>
 fn signed_of(numeral: &Numeral<'_>) -> Option<i64>
     ensures number { IfSome result (λ z. number_from false numeral.now ≡ Some (of_integer z)) }
     ensures in_range { IfSome result (FitsSigned w64) }
+    ensures none { IfNone result ((z : ℤ) → FitsSigned w64 z → number_from false numeral.now ≢ Some (of_integer z)) }
 {
     match numeral.to_u64() {
         Some(n) if n <= i64::MAX as u64 => Some(n as i64),
@@ -51,6 +55,7 @@ fn signed_of(numeral: &Numeral<'_>) -> Option<i64>
 fn negative_of(numeral: &Numeral<'_>) -> Option<i64>
     ensures number { IfSome result (λ z. number_from true numeral.now ≡ Some (of_integer z)) }
     ensures in_range { IfSome result (FitsSigned w64) }
+    ensures none { IfNone result ((z : ℤ) → FitsSigned w64 z → number_from true numeral.now ≢ Some (of_integer z)) }
 {
     match numeral.to_i64(true) {
         Some(z) if z < 0 => Some(z),

@@ -8,4 +8,4 @@ pub returns : goal.returns
 returns c =
     let n = unsigned c.in-Some.n in
     let first : c.args.reader.now ≡ Token.number c.in-Some-Number.text.now ∷ c.next.new.self = grind arith in
-    (number n, refl, reads-same first refl (reads-number c.in-Some-Number.text.now n c.next.new.self c.in-Some.ensures))
+    (number n, refl, reads-same first refl (reads-number c.in-Some-Number.text.now n c.next.new.self c.in-Some.ensures.some))
