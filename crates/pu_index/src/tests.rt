@@ -76,6 +76,10 @@ fn writes_numbers(rt: HostRuntime) -> Result<(), Fail> {
     let none = ChunkId::<24>::null();
     let text = format!(in alloc; "{none:?}")?;
     assert_eq!(rt; text.as_str(), "NULL");
+    let far = ChunkId::<24>::from_inner((1 << 60) + 1);
+    let text = format!(in alloc; "{far:?}")?;
+    assert_eq!(rt; far.extract(), (1, 0));
+    assert_eq!(rt; text.as_str(), "(1, 0)");
     let number = NullableIdxSize::from(4);
     let text = format!(in alloc; "{number:?}")?;
     assert_eq!(rt; text.as_str(), "4");
