@@ -49,10 +49,12 @@ fn numbers_rows(rt: HostRuntime) {
     assert_eq!(rt; 7u8.to_idx(10), 7);
     assert_eq!(rt; NullableIdxSize::null().to_opt(), None);
     assert_eq!(rt; NullableIdxSize::from(4).to_opt(), Some(4));
-    assert!(rt; matches!(
-        check_bounds(&[0, 4], 4),
-        Err(PolarsUtilsError::OutOfBounds { index: 4, len: 4 })
-    ));
+    assert!(rt;
+        matches!(
+            check_bounds(&[0, 4], 4),
+            Err(PolarsUtilsError::OutOfBounds { index: 4, len: 4 })
+        )
+    );
     assert!(rt; check_bounds(&[], 0).is_ok());
 }
 

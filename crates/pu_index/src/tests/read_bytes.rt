@@ -10,10 +10,12 @@ use std::test::Fail;
 fn reads_bytes(rt: HostRuntime) -> Result<(), Fail> {
     let mut reader = MemReader::new(MemSlice::from_static(b"abcd"));
     assert_eq!(rt; reader.seek(SeekFrom::Start(2)).ok(), Some(2));
-    assert!(rt; matches!(
-        reader.seek(SeekFrom::Current(3)),
-        Err(PolarsUtilsError::SeekOutOfRange)
-    ));
+    assert!(rt;
+        matches!(
+            reader.seek(SeekFrom::Current(3)),
+            Err(PolarsUtilsError::SeekOutOfRange)
+        )
+    );
     assert_eq!(rt; reader.position(), 2);
     let rest = reader.read_slice(9)?;
     assert_eq!(rt; rest.as_slice(), b"cd".as_slice());

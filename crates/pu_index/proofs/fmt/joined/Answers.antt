@@ -4,8 +4,7 @@ use Rattle.pu_index.proofs.fmt.joined.Goals as goal
 
 pub loop-item-preserved : goal.loop-item-preserved
 loop-item-preserved g c =
-    let i = c.loop-item.invariant in
-    (
+    let i = c.loop-item.invariant in (
       search rules,
       search rules,
       search rules,
