@@ -39,6 +39,15 @@ fn cuts_chunks(rt: HostRuntime) {
 }
 
 #[test]
+fn copies_chunks(rt: HostRuntime) -> Result<(), Fail> {
+    let chunks = Chunks::new(&[1, 2, 3], 2);
+    let copy = chunks.clone()?;
+    assert_eq!(rt; copy.len(), 2);
+    assert_eq!(rt; chunks.as_slice().len(), 3);
+    Ok(())
+}
+
+#[test]
 fn gives_items_by_place(rt: HostRuntime) {
     let items: &[u8] = &[7, 8, 9];
     assert_eq!(rt; Indexable::get(&items, 1), 8);
