@@ -1,5 +1,6 @@
 pub mod CallsPush
 pub mod InMemory
+pub mod Listings
 pub mod Marks
 pub mod Padded
 pub mod Pairings

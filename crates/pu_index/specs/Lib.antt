@@ -8,6 +8,7 @@ pub mod Entries
 pub mod FixedRing
 pub mod Idx
 pub mod InMemory
+pub mod Listed
 pub mod Padded
 pub mod Parts
 pub mod Places

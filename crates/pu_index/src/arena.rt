@@ -22,8 +22,8 @@ impl Default for Node {
     }
 }
 
-/// A list of entries, each named by its place. Its version is the number of times that it was cleared, counted around
-/// at 2^32.
+/// A list of entries, each named by its place. A number that a call takes has to be below the number
+/// of entries. The version is the number of times that the arena was cleared, counted around at 2^32.
 #[derive(Drop)]
 pub struct Arena<T> {
     version: u32,
@@ -51,7 +51,7 @@ impl<T> Arena<T> {
         }
     }
 
-    /// An arena without entries that has room for `cap` of them.
+    /// An arena without entries, of which `cap` are awaited.
     ///
     /// Fails only for want of memory.
     pub fn with_capacity(alloc: Global, cap: usize) -> Result<Arena<T>>
@@ -288,7 +288,7 @@ fn cloned<T: Clone>(alloc: Global, values: &[T]) -> Result<Vec<T>>
     Ok(copies)
 }
 
-/// Two different entries of a slice, to write to.
+/// Two different entries of a slice, to write to. Both numbers have to be below its length.
 pub fn pair_of<T>(entries: &mut [T], a: Node, b: Node) -> (&mut T, &mut T)
     requires first { a.0 < length entries.old }
     requires second { b.0 < length entries.old }

@@ -32,7 +32,8 @@ impl<const CHUNK_BITS: u64> ChunkId<CHUNK_BITS> {
         self.swizzled == u64::MAX
     }
 
-    /// The row of a chunk, whose number isn't the greatest of `CHUNK_BITS` bits.
+    /// The row of a chunk, whose number has to be below the greatest of `CHUNK_BITS` bits. These are
+    /// 1 to 32, as in [`extract`](ChunkId::extract).
     pub fn store(chunk: IdxSize, row: IdxSize) -> ChunkId<CHUNK_BITS>
         requires bits { (1 ≤ CHUNK_BITS) × (CHUNK_BITS ≤ 32) }
         requires chunk { chunk + 1 < 2 ^ CHUNK_BITS }
@@ -84,10 +85,9 @@ impl<const CHUNK_BITS: u64> fmt::Debug for ChunkId<CHUNK_BITS> {
         if self.is_null() {
             return write!(f, "NULL");
         }
-        let size = 1u128 << CHUNK_BITS % 64;
-        let inner = u128::from(self.swizzled);
-        let chunk = inner % size;
-        let row = inner / size;
+        let size = 1u64 << CHUNK_BITS % 64;
+        let chunk = self.swizzled % size;
+        let row = self.swizzled / size % (1 << 32);
         write!(f, "({chunk}, {row})")
     }
 }

@@ -18,7 +18,7 @@ pub struct Chunks<'a, T> {
 impl<'a, T> Chunks<'a, T> {
     ghost use Rattle.pu_index.specs.ChunksLeft.{left, size};
 
-    /// The chunks of a slice.
+    /// The chunks of a slice, whose size has to be at least 1.
     pub fn new(slice: &'a [T], chunk_size: usize) -> Chunks<'a, T>
         requires { 1 ≤ chunk_size }
         ensures whole { left result ≡ slice.now }
@@ -81,7 +81,7 @@ impl<'a, T> Iterator for Chunks<'a, T> {
         ensures count { result.0 ≡ chunk_total (length (left self.now)) (size self.now) }
         ensures exact { result.1 ≡ Some result.0 }
     {
-        let len = self.slice.len().div_ceil(self.chunk_size);
+        let len = self.len();
         (len, Some(len))
     }
 }

@@ -10,12 +10,12 @@ pub trait Indexable {
     // The items, in order.
     ghost items: { Self → List Self.Item };
 
-    /// The item at a place.
+    /// The item at a place, which has to be below the length.
     fn get(&self, i: usize) -> Self::Item
         requires { i < length (items self.now) }
         ensures { slice_get (items self.now) i ≡ Some result };
 
-    /// The item at a place, which nothing tests when it runs.
+    /// The item at a place below the length, which nothing tests when it runs.
     fn get_unchecked(&self, i: usize) -> Self::Item
         requires { i < length (items self.now) }
         ensures { slice_get (items self.now) i ≡ Some result };

@@ -98,7 +98,7 @@ pub fn enumerate_u32<I: Iterator>(iter: I) -> EnumerateIdx<I>
     ensures source { source result ≡ iter }
     ensures number { number result ≡ 0 }
 {
-    EnumerateIdx::new(iter)
+    enumerate_idx(iter)
 }
 
 /// The items of an iterator.

@@ -93,7 +93,7 @@ impl MemSlice {
         self.bytes.as_slice()
     }
 
-    /// The bytes of a range.
+    /// The bytes of a range, which has to lie within and mustn't end before its start.
     ///
     /// Fails only for want of memory.
     pub fn slice(&self, range: Range<usize>) -> Result<MemSlice>

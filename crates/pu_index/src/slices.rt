@@ -17,13 +17,13 @@ pub trait SliceAble: Sized {
     // The items, in order.
     ghost items: { Self → List Self.Item };
 
-    /// The items of a range.
+    /// The items of a range, which has to lie within the list and mustn't end before its start.
     fn slice(&self, range: Range<usize>) -> Self
         requires ordered { range.start ≤ range.end }
         requires within { range.end ≤ length (items self.now) }
         ensures { items result ≡ slice_range (items self.now) range.start range.end };
 
-    /// The items of a range, which nothing tests when it runs.
+    /// The items of a range as of [`slice`](SliceAble::slice), which nothing tests when it runs.
     fn slice_unchecked(&self, range: Range<usize>) -> Self
         requires ordered { range.start ≤ range.end }
         requires within { range.end ≤ length (items self.now) }
@@ -47,7 +47,8 @@ impl<'a, T> SliceAble for &'a [T] {
 }
 
 /// Part `i` of a range that is cut into `k` parts, whose sizes differ by at most one. The longer
-/// parts stand first, and each begins where the one before it ends.
+/// parts stand first, and each begins where the one before it ends. `i` has to be below `k`, and the
+/// range mustn't end before its start.
 pub fn range_portion(i: usize, k: usize, r: Range<usize>) -> Range<usize>
     requires part { i < k }
     requires ordered { r.start ≤ r.end }

@@ -22,7 +22,8 @@ use std::{array, fmt, slice};
 /// Numbers of rows.
 pub type IdxVec = UnitVec<IdxSize>;
 
-/// A vector of fewer than 2^31 items, of which the first takes no memory.
+/// A vector whose first item takes no memory. What appends to it or copies it asks that there are
+/// fewer than 2^31 items.
 ///
 /// What makes one asks that an item takes fewer than 2^63 bytes, which a concrete type shows by
 /// itself. The vector keeps that, so that nothing else asks it.
@@ -225,6 +226,7 @@ impl<T: Copy> UnitVec<T> {
     pub fn extend_from_slice(&mut self, items: &[T]) -> Result<()>
         requires { length self.old.items + length items.now < 2 ^ 31 }
         ensures appended { OnOk result (self.new ≡ short (self.old.items ++ items.now) (grown self.old.capacity (length self.old.items + length items.now))) }
+        ensures room { length self.old.items + length items.now ≤ self.old.capacity → IsOk result }
         ensures unchanged { OnErr result (self.new ≡ self.old) }
         ensures memory { OnErr result (result ≡ Err refusal.OutOfMemory) }
     {
@@ -269,7 +271,8 @@ impl<T: Copy> UnitVec<T> {
     pub fn from_elem(alloc: Global, item: T, n: usize) -> Result<UnitVec<T>>
         requires fits { FitsInMemory T.row }
         requires short { n < 2 ^ 31 }
-        ensures same { IfOk result (λ v. v.items ≡ replicate n item) }
+        ensures same { IfOk result (λ v. v ≡ short (replicate n item) (max 1 n)) }
+        ensures inline { n ≤ 1 → IsOk result }
         ensures memory { OnErr result (result ≡ Err refusal.OutOfMemory) }
     {
         let mut v = UnitVec::with_capacity(alloc, n)?;
@@ -306,31 +309,22 @@ impl<T: Copy> UnitVec<T> {
     pub fn from_slice(alloc: Global, items: &[T]) -> Result<UnitVec<T>>
         requires fits { FitsInMemory T.row }
         requires short { length items.now < 2 ^ 31 }
-        ensures same { IfOk result (λ v. v.items ≡ items.now) }
-        ensures inline { length items.now ≤ 1 → IfOk result (λ v. v.capacity ≡ 1) × IsOk result }
+        ensures same { IfOk result (λ v. v ≡ short items.now (max 1 (length items.now))) }
+        ensures inline { length items.now ≤ 1 → IsOk result }
         ensures memory { OnErr result (result ≡ Err refusal.OutOfMemory) }
     {
-        if items.len() <= 1 {
-            return Ok(UnitVec {
-                inline: items.first().copied(),
-                heap: empty(alloc),
-                in_memory: InMemory::new(),
-            });
-        }
-        let heap = Vec::from_slice(alloc, items)?;
-        Ok(UnitVec {
-            inline: None,
-            heap,
-            in_memory: InMemory::new(),
-        })
+        let mut v = UnitVec::with_capacity(alloc, items.len())?;
+        v.extend_from_slice(items)?;
+        Ok(v)
     }
 
-    /// An equal vector.
+    /// An equal vector, which takes no memory for one item.
     ///
     /// Fails only for want of memory.
     pub fn try_clone(&self, alloc: Global) -> Result<UnitVec<T>>
         requires { length self.now.items < 2 ^ 31 }
-        ensures same { IfOk result (λ v. v.items ≡ self.now.items) }
+        ensures same { IfOk result (λ v. v ≡ short self.now.items (max 1 (length self.now.items))) }
+        ensures inline { length self.now.items ≤ 1 → IsOk result }
         ensures memory { OnErr result (result ≡ Err refusal.OutOfMemory) }
     {
         self.in_memory.shows();

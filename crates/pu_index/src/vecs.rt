@@ -1,5 +1,5 @@
 // Vectors that are filled, converted and filtered in place.
-ghost use Rattle.std.specs.Prelude.{◌≡◌, ◌<◌, ◌++◌, ◌∷◌, [], List, Option, map, replicate, length, vec_len, vec_capacity, IfOk, OnOk, OnErr, Err, MatchOption};
+ghost use Rattle.std.specs.Prelude.{◌≡◌, ◌+◌, ◌<◌, ◌++◌, ◌∷◌, [], List, Option, map, replicate, length, vec_len, vec_capacity, IfOk, OnOk, OnErr, Err, MatchOption};
 ghost use Rattle.std.specs.Fn.{CalledAt};
 ghost use Rattle.std.specs.VecDeque.{deque_len, deque_capacity};
 ghost use Rattle.pu_index.specs.Calls.{Calls, Filters, kept};
@@ -29,14 +29,16 @@ pub fn fill_or_alloc<T: Copy + Zero>(v: &mut Vec<T>, new_len: usize, value: T) -
 /// Appends a value to a vector that has room for it, so that no memory is taken.
 pub fn push_unchecked<T>(v: &mut Vec<T>, value: T)
     requires { vec_len v.old < vec_capacity v.old }
-    ensures { v.new.items ≡ v.old.items ++ value ∷ [] }
+    ensures items { v.new.items ≡ v.old.items ++ value ∷ [] }
+    ensures len { vec_len v.new ≡ vec_len v.old + 1 }
+    ensures capacity { vec_capacity v.new ≡ vec_capacity v.old }
 {
     v.push_reserved(value);
 }
 
 /// What `f` answers at each item, in order.
 ///
-/// Fails only for want of memory, before any call of `f`.
+/// Fails only for want of memory.
 pub fn convert<T, O: Drop, F: FnMut(&T) -> O>(alloc: Global, v: &[T], mut f: F) -> Result<Vec<O>>
     requires { F.IsAlwaysCallable f }
     ensures answers { IfOk result (λ out. (last : F) × Calls (CalledAt F.FnMut) f v.now out.items last) }
@@ -128,18 +130,7 @@ fn keep<T, U>(firsts: &mut VecDeque<T>, seconds: &mut VecDeque<U>, answer: Optio
     ensures seconds { seconds.new.items ≡ seconds.old.items ++ map (λ p. p.1) (kept (answer ∷ [])) }
 {
     if let Some((first, second)) = answer {
-        put_back(firsts, first);
-        put_back(seconds, second);
-    }
-}
-
-/// Appends an item where there is room for it.
-fn put_back<T>(items: &mut VecDeque<T>, item: T)
-    requires { deque_len items.old < deque_capacity items.old }
-    ensures { items.new.items ≡ items.old.items ++ item ∷ [] }
-{
-    match items.push_back(item) {
-        Ok(()) => {}
-        Err(_item) => unreachable!(),
+        firsts.push_back_reserved(first);
+        seconds.push_back_reserved(second);
     }
 }
