@@ -51,7 +51,7 @@ impl<T> Arena<T> {
         }
     }
 
-    /// An arena without entries, of which `cap` are awaited.
+    /// An arena without entries, made for `cap` of them. How much room it takes is seen by no contract.
     ///
     /// Fails only for want of memory.
     pub fn with_capacity(alloc: Global, cap: usize) -> Result<Arena<T>>
