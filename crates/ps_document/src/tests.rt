@@ -1,5 +1,6 @@
 // Documents as a caller hands them in.
 use crate::document::{Document, DocumentError, read_document};
+use crate::found::read_off_tokens;
 use std::alloc::Global;
 use std::test::Fail;
 
@@ -74,6 +75,22 @@ fn each_form_is_read(rt: HostRuntime) -> Result<(), Fail> {
     assert_eq!(rt; document.exprs.len(), 39);
     assert_eq!(rt; document.nodes.len(), 21);
     assert_eq!(rt; document.root.0, usize::MAX);
+    Ok(())
+}
+
+/// Whether a document is told with no tree of its tables.
+fn is_told(alloc: Global, document: &str) -> Result<bool, Fail> {
+    Ok(read_off_tokens(alloc, document.as_bytes())?.is_some())
+}
+
+#[test]
+fn documents_are_told_by_their_tokens(rt: HostRuntime) -> Result<(), Fail> {
+    let alloc = rt.alloc();
+    assert!(rt; is_told(alloc, EVERY_FORM)?);
+    assert!(rt; is_told(alloc, r#"{"root":0,"nodes":[],"exprs":[],"tables":[]}"#)?);
+    let twice = r#"{"tables":1,"tables":[],"exprs":[],"nodes":[],"root":0}"#;
+    assert!(rt; !is_told(alloc, twice)?);
+    assert_eq!(rt; verdict(alloc, twice)?, "document");
     Ok(())
 }
 
