@@ -16,6 +16,8 @@ const NO_LEFT: &str = r#"[["k","int",[]],["a","int",[]]]"#;
 
 const NO_RIGHT: &str = r#"[["k","int",[]],["b","int",[]]]"#;
 
+const NO_CELLS: &str = r#"[["c","int",[]]]"#;
+
 #[test]
 fn rows_are_taken_as_they_are(rt: HostRuntime) -> Result<(), Fail> {
     let alloc = rt.alloc();
@@ -305,6 +307,8 @@ fn no_rows_give_none(rt: HostRuntime) -> Result<(), Fail> {
         (r#"["cache",0,0]"#, "k,a"),
         (r#"["sort",0,[0,1],[true],[true],[0,1]]"#, "k,a"),
         (r#"["union",[0,0],null]"#, "k,a"),
+        (r#"["hconcat",[0,3]]"#, "k,a,c"),
+        (r#"["hconcat",[3,2]]"#, "c,k,a\n,3,40"),
         (r#"["group_by",0,[["k",0]],[["n",2]],false,null]"#, "k,n"),
         (r#"["group_by",0,[["x",3]],[["n",2]],true,null]"#, "x,n"),
         (r#"["distinct",0,null,false,"last",null]"#, "k,a"),
@@ -314,9 +318,18 @@ fn no_rows_give_none(rt: HostRuntime) -> Result<(), Fail> {
             "k,a,b",
         ),
         (
+            r#"["join",0,1,"left",[0],[0],null,true,"m:m",null]"#,
+            "k,a,b",
+        ),
+        (
+            r#"["join",0,1,"right",[0],[0],null,true,"m:m",null]"#,
+            "a,k,b",
+        ),
+        (
             r#"["join",0,1,"full",[0],[0],null,true,"m:m",null]"#,
             "k,a,k_right,b",
         ),
+        (r#"["join",0,1,"semi",[0],[0],null,true,"m:m",null]"#, "k,a"),
         (r#"["join",0,1,"anti",[0],[0],null,true,"m:m",null]"#, "k,a"),
         (
             r#"["join",0,1,"cross",[],[],null,true,"m:m",null]"#,
@@ -345,8 +358,32 @@ fn no_rows_give_none(rt: HostRuntime) -> Result<(), Fail> {
             "k,a,k_right,b",
         ),
     ] {
-        let text = run(alloc, &[NO_LEFT, NO_RIGHT, ONE_LEFT], exprs, &[node])?;
+        let text = run(
+            alloc,
+            &[NO_LEFT, NO_RIGHT, ONE_LEFT, NO_CELLS],
+            exprs,
+            &[node],
+        )?;
         assert_eq!(rt; text.as_str(), wanted, "at {node}");
+    }
+    Ok(())
+}
+
+// A table of one column with 65,536 equal cells, beside itself, has 2^32 pairs of rows.
+#[test]
+fn too_many_rows_are_refused_at_once(rt: HostRuntime) -> Result<(), Fail> {
+    let alloc = rt.alloc();
+    let mut cells = String::from_str(alloc, "0")?;
+    for _ in 1..65_536 {
+        cells.push_str(",0")?;
+    }
+    let table = format!(in alloc; "[[\"k\",\"int\",[{cells}]]]")?;
+    for join in [
+        r#"["join",0,0,"cross",[],[],null,false,"m:m",[0,1]]"#,
+        r#"["join",0,0,"inner",[0],[0],null,false,"m:m",[0,1]]"#,
+    ] {
+        let text = run(alloc, &[table.as_str()], r#"["col","k"]"#, &[join])?;
+        assert_eq!(rt; text.as_str(), "OutOfBounds Rows at 1", "at {join}");
     }
     Ok(())
 }
