@@ -34,3 +34,7 @@ IsLonger limit (Some bytes) = limit < length bytes
 abbrev pub AppendsFront : Option (List ℕ) → List ℕ → Option (List ℕ) → Type 0
 AppendsFront None piece after = ⊤
 AppendsFront (Some bytes) piece after = (front rest : List ℕ) × (piece ≡ front ++ rest) × (after ≡ Some (bytes ++ front))
+
+-- the line was written, whole unless a write failed, and then a front of it
+abbrev pub Tells : Option (List ℕ) → List ℕ → Option (List ℕ) → ℕ → ℕ → Type 0
+Tells before line after faults faults_after = AppendsFront before line after × (¬ Rose faults faults_after → Appends before line after)

@@ -14,26 +14,44 @@ pub mod tool;
 pub mod writing;
 
 use functions::ToolFunctions;
+use outcome::Outcome;
 use ps_exec::gate::NoGate;
 use sink::StdSink;
 use source::StdSource;
-use std::env;
+use std::alloc::{AllocError, Global};
+use std::env::{self, Env};
 use std::io::ErrorKind;
 use std::process::ExitCode;
-use tool::run_tool;
+use tool::{run_tool, write_line};
+
+/// The words behind the program's name; none where they can't be read as text.
+///
+/// Fails only for want of memory.
+fn words_of<R: Env + Alloc<A = Global>>(rt: &R) -> Result<Vec<String>, AllocError> {
+    let mut words = Vec::new(rt.alloc());
+    match env::args(rt) {
+        Ok(args) => {
+            for word in args.skip(1) {
+                words.push(word)?;
+            }
+        }
+        Err(error) => {
+            if error.kind() == ErrorKind::OutOfMemory {
+                return Err(AllocError);
+            }
+        }
+    }
+    Ok(words)
+}
 
 fn main(rt: HostRuntime) -> ExitCode {
     let mut source = StdSource::new(rt.stdin());
     let mut out = StdSink::new(rt.stdout());
     let mut err = StdSink::new(rt.stderr());
-    let mut words = Vec::new(rt.alloc());
-    if let Ok(args) = env::args(&rt) {
-        for word in args.skip(1) {
-            if words.push(word).is_err() {
-                return ExitCode::from(9);
-            }
-        }
-    }
+    let Ok(words) = words_of(&rt) else {
+        write_line(&mut err, &Outcome::OutOfMemory);
+        return ExitCode::from(Outcome::OutOfMemory.status());
+    };
     let ended = run_tool(
         &rt,
         rt.alloc(),

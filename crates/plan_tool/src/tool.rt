@@ -6,7 +6,7 @@ ghost use Rattle.ps_plan.specs.Refusals.{IsValid};
 ghost use Rattle.ps_tables.specs.Called.{functions_of};
 ghost use Rattle.tool_words.specs.Words.{AreWords, IsRun};
 ghost use Rattle.plan_tool.specs.Answers.{IsFaultLine, IsNoDocumentLine, IsRefusalLine, OfPlan, line_of, status_of};
-ghost use Rattle.plan_tool.specs.Outside.{Appends, AppendsFront, IsLonger, Rose};
+ghost use Rattle.plan_tool.specs.Outside.{Appends, AppendsFront, IsLonger, Rose, Tells};
 ghost use Rattle.plan_tool.specs.Runs.{IsEnd, IsToolText, Read, help_text, version_text};
 
 use crate::answer::answer;
@@ -51,9 +51,9 @@ pub fn run_tool<R: Threads + Wait + Sync, F: Functions, G: Gate, S: Source, K: S
 
     // Why else it ends.
     ensures usage { (result.status ≡ 2) ↔ ¬ AreWords words.now }
-    ensures no_document { result.status ≡ 3 → Read (S.left source.old) (λ bytes. (line : List ℕ) × IsNoDocumentLine bytes line × AppendsFront (E.written err.old) line (E.written err.new)) }
-    ensures refused { result.status ≡ 4 → Read (S.left source.old) (λ bytes. (line : List ℕ) × OfPlan bytes (λ plan. IsRefusalLine (functions_of (F.counted functions.now) F.streams F.answer F.declared) plan line) × AppendsFront (E.written err.old) line (E.written err.new)) }
-    ensures faulted { result.status ≡ 5 → Read (S.left source.old) (λ bytes. (line : List ℕ) × OfPlan bytes (λ plan. IsFaultLine (functions_of (F.counted functions.now) F.streams F.answer F.declared) plan line) × AppendsFront (E.written err.old) line (E.written err.new)) }
+    ensures no_document { result.status ≡ 3 → Read (S.left source.old) (λ bytes. (line : List ℕ) × IsNoDocumentLine bytes line × Tells (E.written err.old) line (E.written err.new) (E.faults err.old) (E.faults err.new)) }
+    ensures refused { result.status ≡ 4 → Read (S.left source.old) (λ bytes. (line : List ℕ) × OfPlan bytes (λ plan. IsRefusalLine (functions_of (F.counted functions.now) F.streams F.answer F.declared) plan line) × Tells (E.written err.old) line (E.written err.new) (E.faults err.old) (E.faults err.new)) }
+    ensures faulted { result.status ≡ 5 → Read (S.left source.old) (λ bytes. (line : List ℕ) × OfPlan bytes (λ plan. IsFaultLine (functions_of (F.counted functions.now) F.streams F.answer F.declared) plan line) × Tells (E.written err.old) line (E.written err.new) (E.faults err.old) (E.faults err.new)) }
     ensures read_fault { result.status ≡ 6 → Rose (S.faults source.old) (S.faults source.new) }
     ensures write_fault { result.status ≡ 7 → Rose (K.faults out.old) (K.faults out.new) }
     ensures cut { result.status ≡ 7 → (text : List ℕ) × IsToolText (functions_of (F.counted functions.now) F.streams F.answer F.declared) words.now (S.left source.old) text × AppendsFront (K.written out.old) text (K.written out.new) }
@@ -70,9 +70,10 @@ pub fn run_tool<R: Threads + Wait + Sync, F: Functions, G: Gate, S: Source, K: S
         → OfPlan bytes (λ plan. IsValid (functions_of (F.counted functions.now) F.streams F.answer F.declared) plan × NothingBreaks (functions_of (F.counted functions.now) F.streams F.answer F.declared) plan)
         → ¬ Rose (S.faults source.old) (S.faults source.new) → ¬ Rose (K.faults out.old) (K.faults out.new) → (result.status ≡ 0) ⊎ (result.status ≡ 9) }
 
-    // What is written beside the text.
+    // Words that are no run leave the source as it is. Without a text `out` stays, and `err` is told how it ended.
+    ensures unread { ¬ IsRun words.now → source.new ≡ source.old }
     ensures silent { result.status ≢ 0 → result.status ≢ 7 → K.written out.new ≡ K.written out.old }
-    ensures line { (o : Outcome) × (result.status ≡ status_of o) × AppendsFront (E.written err.old) (line_of o) (E.written err.new) × (¬ Rose (E.faults err.old) (E.faults err.new) → Appends (E.written err.old) (line_of o) (E.written err.new)) }
+    ensures line { (o : Outcome) × (result.status ≡ status_of o) × Tells (E.written err.old) (line_of o) (E.written err.new) (E.faults err.old) (E.faults err.new) }
 {
     let outcome = outcome_of(rt, alloc, words, source, out, functions, gate);
     write_line(err, &outcome);
@@ -91,7 +92,8 @@ fn outcome_of<R: Threads + Wait + Sync, F: Functions, G: Gate, S: Source, K: Sin
     functions: &F,
     gate: &G,
 ) -> Outcome
-    ensures { IsEnd (functions_of (F.counted functions.now) F.streams F.answer F.declared) words.now (record { left = S.left source.old; left_after = S.left source.new; read_faults = S.faults source.old; read_faults_after = S.faults source.new; written = K.written out.old; written_after = K.written out.new; write_faults = K.faults out.old; write_faults_after = K.faults out.new }) result }
+    ensures end { IsEnd (functions_of (F.counted functions.now) F.streams F.answer F.declared) words.now (record { left = S.left source.old; left_after = S.left source.new; read_faults = S.faults source.old; read_faults_after = S.faults source.new; written = K.written out.old; written_after = K.written out.new; write_faults = K.faults out.old; write_faults_after = K.faults out.new }) result }
+    ensures unread { ¬ IsRun words.now → source.new ≡ source.old }
 {
     match command_of(words) {
         None => Outcome::Usage,
@@ -170,7 +172,7 @@ fn version() -> &'static str
 }
 
 /// Writes the line of an outcome; where that fails, a front of it stands there.
-fn write_line<E: Sink>(err: &mut E, outcome: &Outcome)
+pub(crate) fn write_line<E: Sink>(err: &mut E, outcome: &Outcome)
     ensures front { AppendsFront (E.written err.old) (line_of outcome.now) (E.written err.new) }
     ensures whole { ¬ Rose (E.faults err.old) (E.faults err.new) → Appends (E.written err.old) (line_of outcome.now) (E.written err.new) }
 {

@@ -7,3 +7,5 @@ pub mod query;
 mod readers;
 mod tables;
 mod walk;
+
+pub use ps_nodes::options::Options;
