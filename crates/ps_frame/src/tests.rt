@@ -353,66 +353,72 @@ fn picked(alloc: Global, column: &Column, a: usize, b: usize) -> Result<Column, 
     column.gather(alloc, &[a, b])
 }
 
-// The values from a place on.
-fn kept_from(alloc: Global, column: &Column, from: usize) -> Result<Column, FrameError> {
-    let mut marks = Vec::new(alloc);
-    for i in 0..column.len() {
-        marks.push(Value::Boolean(i >= from))?;
-    }
-    if marks.len() != column.len() {
-        return Err(FrameError::Height);
-    }
-    column.keep(alloc, marks.as_slice())
+// The numbers from 0 on, and below them those from 70,000 on.
+fn two_runs(alloc: Global) -> Result<Column, FrameError> {
+    let upper = numbered(alloc, 0, 5000)?;
+    let lower = numbered(alloc, 70_000, 6000)?;
+    below(alloc, &upper, &lower)
 }
 
 #[test]
 fn long_columns_share_their_runs(rt: HostRuntime) -> Result<(), Fail> {
-    let upper = numbered(rt.alloc(), 0, 5000)?;
-    let lower = numbered(rt.alloc(), 70_000, 6000)?;
-    let both = below(rt.alloc(), &upper, &lower)?;
+    let both = two_runs(rt.alloc())?;
     assert_eq!(rt; both.count_runs(), 2);
     assert_eq!(rt; both.len(), 11_000);
     assert!(rt; has_index(&both, 4999, Some(4999)) && has_index(&both, 5000, Some(70_000)));
-    let part = both.slice(rt.alloc(), 4999, 2)?;
-    let run = part.run(rt.alloc())?;
-    assert!(rt;
-        matches!(
-            run.as_slice(),
-            [Value::IdxSize(4999), Value::IdxSize(70_000)]
-        )
-    );
-    let end = both.slice(rt.alloc(), 10_000, 5000)?;
-    assert_eq!(rt; end.count_runs(), 1);
-    assert_eq!(rt; end.len(), 1000);
-    assert!(rt; has_index(&end, 999, Some(75_999)));
-    let turned = picked(rt.alloc(), &both, 5000, 4999)?;
-    assert!(rt; has_index(&turned, 0, Some(70_000)) && has_index(&turned, 1, Some(4999)));
-    let kept = kept_from(rt.alloc(), &both, 4999)?;
-    assert!(rt; has_index(&kept, 0, Some(4999)) && has_index(&kept, 1, Some(70_000)));
-    let four = twice(rt.alloc(), &both)?;
-    assert_eq!(rt; four.count_runs(), 4);
-    assert!(rt; has_index(&four, 10_999, Some(75_999)) && has_index(&four, 11_000, Some(0)));
     Ok(())
 }
 
 #[test]
-fn a_builder_takes_whole_columns(rt: HostRuntime) -> Result<(), Fail> {
-    let long = numbered(rt.alloc(), 0, 5000)?;
-    let few = repeating(rt.alloc(), 2000, 7)?;
-    let mut builder = ColumnBuilder::new(rt.alloc(), DataType::IdxSize);
-    builder.push(rt.alloc(), Value::IdxSize(9))?;
-    let mut builder = builder.with_column(rt.alloc(), &long)?;
-    builder.push(rt.alloc(), Value::Null)?;
-    let builder = builder.with_column(rt.alloc(), &few)?;
-    let column = builder.with_column(rt.alloc(), &long)?.finish(rt.alloc())?;
+fn a_slice_goes_over_the_seam_of_two_runs(rt: HostRuntime) -> Result<(), Fail> {
+    let part = two_runs(rt.alloc())?.slice(rt.alloc(), 4999, 2)?;
+    assert_eq!(rt; part.count_runs(), 2);
+    assert!(rt; has_index(&part, 0, Some(4999)) && has_index(&part, 1, Some(70_000)));
+    Ok(())
+}
+
+#[test]
+fn a_slice_within_a_run_has_that_run_alone(rt: HostRuntime) -> Result<(), Fail> {
+    let end = two_runs(rt.alloc())?.slice(rt.alloc(), 10_000, 5000)?;
+    assert_eq!(rt; end.count_runs(), 1);
+    assert_eq!(rt; end.len(), 1000);
+    assert!(rt; has_index(&end, 999, Some(75_999)));
+    Ok(())
+}
+
+#[test]
+fn places_are_picked_from_both_runs(rt: HostRuntime) -> Result<(), Fail> {
+    let both = two_runs(rt.alloc())?;
+    let turned = picked(rt.alloc(), &both, 5000, 4999)?;
+    assert!(rt; has_index(&turned, 0, Some(70_000)) && has_index(&turned, 1, Some(4999)));
+    Ok(())
+}
+
+// A number, a long column, a null and that column again.
+fn long_columns_built(alloc: Global) -> Result<Column, FrameError> {
+    let long = numbered(alloc, 0, 5000)?;
+    let mut builder = ColumnBuilder::new(alloc, DataType::IdxSize);
+    builder.push(alloc, Value::IdxSize(9))?;
+    let mut builder = builder.with_column(alloc, &long)?;
+    builder.push(alloc, Value::Null)?;
+    builder.with_column(alloc, &long)?.finish(alloc)
+}
+
+#[test]
+fn a_builder_shares_long_columns(rt: HostRuntime) -> Result<(), Fail> {
+    let column = long_columns_built(rt.alloc())?;
     assert_eq!(rt; column.count_runs(), 4);
-    assert_eq!(rt; column.len(), 12_402);
+    assert_eq!(rt; column.len(), 10_002);
     assert!(rt; has_index(&column, 0, Some(9)) && has_index(&column, 1, Some(0)));
-    assert!(rt; has_index(&column, 5000, Some(4999)) && has_index(&column, 5001, None));
-    assert!(rt; has_index(&column, 5002, Some(0)) && has_index(&column, 5007, None));
-    assert!(rt; has_index(&column, 7402, Some(0)) && has_index(&column, 12_401, Some(4999)));
+    assert!(rt; has_index(&column, 5001, None) && has_index(&column, 10_001, Some(4999)));
+    Ok(())
+}
+
+#[test]
+fn a_builder_refuses_a_column_of_another_kind(rt: HostRuntime) -> Result<(), Fail> {
+    let numbers = numbered(rt.alloc(), 0, 3)?;
     let texts = ColumnBuilder::new(rt.alloc(), DataType::String);
-    let refused = texts.with_column(rt.alloc(), &long);
+    let refused = texts.with_column(rt.alloc(), &numbers);
     assert!(rt; matches!(refused, Err(FrameError::Kind)));
     Ok(())
 }
