@@ -90,7 +90,7 @@ module _ (t : Frame) (own : List Typed) (trees : List Tree) (schema : Fields) (c
   last : last_fields (length trees) schema ≡ drop (length own) schema
   last = let e = long in let f : length schema - length trees ≡ length own = omega arith in ap (λ m. drop m schema) f
 
-  last-kinds : map (kind_over t.schema) trees ≡ map Some (kinds_of (last_fields (length trees) schema))
+  pub last-kinds : map (kind_over t.schema) trees ≡ map Some (kinds_of (last_fields (length trees) schema))
   last-kinds =
       sym (drop-append_seam (map (λ (c : Typed). Some c.kind) own) (map (kind_over t.schema) trees))
       ∙ ap (λ n. drop n (map (λ (c : Typed). Some c.kind) own ++ map (kind_over t.schema) trees)) (length-map own (λ (c : Typed). Some c.kind))
@@ -98,11 +98,6 @@ module _ (t : Frame) (own : List Typed) (trees : List Tree) (schema : Fields) (c
       ∙ drop-map Some (length own) (kinds_of schema)
       ∙ ap (map Some) (drop-map (λ (g : List ℕ × DataType). g.1) (length own) schema)
       ∙ ap (λ (fs : Fields). map Some (kinds_of fs)) (sym last)
-
-  pub aggregates-kinds : All (λ (f : Frame). map (kind_over f.schema) trees ≡ map Some (kinds_of (last_fields (length trees) schema))) (key_frames t.schema rows)
-  aggregates-kinds k d within =
-      let count : k < length (keys_of w rows) = let e = length-map (keys_of w rows) (key_frame t.schema rows) in omega arith in
-      subst (λ (f : Frame). map (kind_over f.schema) trees ≡ map Some (kinds_of (last_fields (length trees) schema))) (sym (get_or-map (key_frame t.schema rows) (keys_of w rows) k [] d count)) last-kinds
 
   pub fault-of-any : (at : ℕ) (e : PolarsError) → IsErrorAt at (IsFaultOfAny at (key_frames t.schema rows) trees) e → IsErrorAt at (IsFaultOfGroups at (table_groups at trees t own)) e
   fault-of-any at e (inl memory) = inl memory

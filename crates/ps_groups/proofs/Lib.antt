@@ -3,6 +3,8 @@ pub mod Kept
 pub mod Gives
 pub mod Parts
 pub mod Values
+pub mod KeyValues
+pub mod Reducing
 pub mod KeyTables
 pub mod GroupRows
 pub mod GroupGives

@@ -31,7 +31,8 @@ typed (suc (suc (suc (suc (suc zero))))) name d h = (tt, h)
 typed (suc (suc (suc (suc (suc (suc zero)))))) name d h = (tt, h)
 typed (suc (suc (suc (suc (suc (suc (suc zero))))))) name d h = (tt, h)
 typed (suc (suc (suc (suc (suc (suc (suc (suc zero)))))))) name d h = (tt, h)
-typed (suc (suc (suc (suc (suc (suc (suc (suc (suc k))))))))) name d h = cc
+typed (suc (suc (suc (suc (suc (suc (suc (suc (suc zero))))))))) name d h = (tt, h)
+typed (suc (suc (suc (suc (suc (suc (suc (suc (suc (suc k)))))))))) name d h = cc
 
 two-fields : (s : Fields) (a b : Named) (p q : DataType) → kind_over s a.1 ≡ Some p → kind_over s b.1 ≡ Some q → fields_of (a ∷ b ∷ []) s ≡ Some ((a.0, p) ∷ (b.0, q) ∷ [])
 two-fields s a b p q e f = λ i. both (λ (k : DataType) (fs : Fields). (a.0, k) ∷ fs) (e i) (both (λ (k : DataType) (fs : Fields). (b.0, k) ∷ fs) (f i) (Some []))

@@ -21,7 +21,7 @@ third = record { 0 = 2 }
 abbrev pub cast_third : Node
 cast_third = record { 0 = 7 }
 
--- columns a, b and c, the sum of b, how many values and how many rows of b, the number 7, c as a number, and the sum of this
+-- columns a, b and c, the sum of b, how many values and how many rows of b, the number 7, c as a number, the sum of this, and how many rows
 abbrev pub tested_entries : List AExpr
 tested_entries =
     entry.Column (codes "a")
@@ -33,8 +33,9 @@ tested_entries =
     ∷ entry.Literal (lit.Int64 (pos 7))
     ∷ entry.Cast third kind.Int64 true
     ∷ entry.Agg (agg.Sum cast_third)
+    ∷ entry.Len
     ∷ []
 
 -- their kinds
 abbrev pub tested_kinds : List DataType
-tested_kinds = kind.Int64 ∷ kind.Int64 ∷ kind.String ∷ kind.Int64 ∷ kind.IdxSize ∷ kind.IdxSize ∷ kind.Int64 ∷ kind.Int64 ∷ kind.Int64 ∷ []
+tested_kinds = kind.Int64 ∷ kind.Int64 ∷ kind.String ∷ kind.Int64 ∷ kind.IdxSize ∷ kind.IdxSize ∷ kind.Int64 ∷ kind.Int64 ∷ kind.Int64 ∷ kind.IdxSize ∷ []

@@ -1,33 +1,39 @@
 // The columns of aggregates: a value for each group.
-ghost use Rattle.std.specs.Prelude.{◌≡◌, ◌<◌, ◌≤◌, ℕ, IfErr, IfOk, IsSome, Some, get_or, length, map};
+ghost use Rattle.std.specs.Prelude.{◌≡◌, ◌<◌, ◌≤◌, ℕ, Err, IfErr, IfOk, IfSome, IsSome, IsTrue, OnErr, OnOk, Some, get_or, length, map};
 ghost use Rattle.std.specs.List.{All, AllByRecursion, AllZip};
 ghost use Rattle.ps_eval.specs.Held.{values_of};
 ghost use Rattle.ps_frame.specs.Frames.{HasKinds, kinds_of};
 ghost use Rattle.ps_frame.specs.Lawful.{FitsFrame};
 ghost use Rattle.ps_frame.specs.Tables.{Frame};
 ghost use Rattle.ps_frame.specs.Trees.{IsComplete, IsExpression, tree_at};
+ghost use Rattle.ps_frame.specs.Typed.{all_fit};
 ghost use Rattle.ps_frame.specs.Typing.{kind_over};
 ghost use Rattle.ps_frame.specs.declared.value.Value.TheVariants as val;
 ghost use Rattle.ps_groups.specs.Errors.{IsErrorAt};
 ghost use Rattle.ps_groups.specs.Grouped.{GivesFirst, IsAggregate, IsFaultOfAny, IsFaultOver, IsValueOf, last_fields};
+ghost use Rattle.ps_groups.specs.Reductions.{ReadsWithin, reduced_values};
+ghost use Rattle.ps_groups.specs.Tables.{IsNumberingOf, group_tables};
 ghost use Rattle.ps_plan.specs.Steps.{key_trees};
 
-use crate::tables::GroupTables;
+use crate::reductions::{Reduction, reduced, reduction_of};
+use crate::tables::{GroupTables, table_fits, tables_by_key};
 use ps_eval::evaluate::part_of;
 use ps_eval::part::{Part, Values, copy_of};
 use ps_frame::column::Column;
 use ps_frame::expr::AExpr;
 use ps_frame::frame::DataFrame;
-use ps_frame::refusal::PolarsResult;
+use ps_frame::refusal::{PolarsError, PolarsResult};
 use ps_frame::schema::Schema;
 use ps_frame::value::{DataFault, DataType, Value};
+use ps_keys::numbering::Numbering;
 use ps_plan::ir::ExprIR;
 use ps_tables::framed::column_of_values;
 use ps_zip::faults::fault_at;
 use pu_index::{Arena, Node};
 use std::alloc::{AllocError, Global};
 
-/// The columns of aggregates over the tables of groups, whose fields are the last ones of a schema.
+/// The columns of aggregates over the groups of a table's rows by their key numbers, whose fields are the last ones of
+/// a schema.
 ///
 /// Fails by a fault that one of them has over a group, or for want of memory.
 pub(crate) fn aggregate_columns(
@@ -35,22 +41,34 @@ pub(crate) fn aggregate_columns(
     at: Node,
     aggs: &[ExprIR],
     arena: &Arena<AExpr>,
-    tables: &GroupTables,
+    df: &DataFrame,
+    numbering: &Numbering,
     schema: &Schema,
 ) -> PolarsResult<Vec<Column>>
     requires complete { AllByRecursion IsComplete (key_trees (tree_at arena.now.items) aggs.now) }
-    requires kinds { All (λ f. map (kind_over f.schema) (key_trees (tree_at arena.now.items) aggs.now) ≡ map Some (kinds_of (last_fields (length aggs.now) schema.now))) tables.now }
+    requires kinds { map (kind_over df.now.schema) (key_trees (tree_at arena.now.items) aggs.now) ≡ map Some (kinds_of (last_fields (length aggs.now) schema.now)) }
     requires count { length aggs.now ≤ length schema.now }
-    requires fit { All FitsFrame tables.now }
+    requires groups { IsNumberingOf df.now numbering.now }
     ensures kinds { IfOk result (λ columns. HasKinds (last_fields (length aggs.now) schema.now) columns.items) }
-    ensures columns { IfOk result (λ columns. AllZip (IsAggregate at.0 tables.now) (key_trees (tree_at arena.now.items) aggs.now) columns.items) }
-    ensures fault { IfErr result (IsErrorAt at.0 (IsFaultOfAny at.0 tables.now (key_trees (tree_at arena.now.items) aggs.now))) }
+    ensures columns { IfOk result (λ columns. AllZip (IsAggregate at.0 (group_tables df.now numbering.now)) (key_trees (tree_at arena.now.items) aggs.now) columns.items) }
+    ensures fault { IfErr result (IsErrorAt at.0 (IsFaultOfAny at.0 (group_tables df.now numbering.now) (key_trees (tree_at arena.now.items) aggs.now))) }
 {
+    table_fits(df);
     let from = schema.len() - aggs.len();
+    let mut tables = None;
     let mut columns = Vec::with_capacity(alloc, aggs.len())?;
     for (i, agg) in aggs.iter().enumerate() {
         let dtype = schema.kind(from + i);
-        match aggregate_column(alloc, at, agg.node, arena, tables, dtype) {
+        match aggregate_column(
+            alloc,
+            at,
+            agg.node,
+            arena,
+            df,
+            numbering,
+            &mut tables,
+            dtype,
+        ) {
             Ok(column) => columns.push(column)?,
             Err(error) => return Err(error),
         }
@@ -58,8 +76,61 @@ pub(crate) fn aggregate_columns(
     Ok(columns)
 }
 
-// The column of an aggregate: its value over the table of each group.
+// The column of an aggregate over groups, whose tables are made once one is needed.
 fn aggregate_column(
+    alloc: Global,
+    at: Node,
+    expr: Node,
+    arena: &Arena<AExpr>,
+    df: &DataFrame,
+    numbering: &Numbering,
+    tables: &mut Option<GroupTables>,
+    dtype: DataType,
+) -> PolarsResult<Column>
+    requires expression { IsExpression arena.now.items expr }
+    requires kind { kind_over df.now.schema (tree_at arena.now.items expr) ≡ Some dtype }
+    requires fit { FitsFrame df.now }
+    requires groups { IsNumberingOf df.now numbering.now }
+    requires made { IfSome tables.old (λ made. made ≡ group_tables df.now numbering.now) }
+    ensures kind { IfOk result (λ c. c.kind ≡ dtype) }
+    ensures column { IfOk result (IsAggregate at.0 (group_tables df.now numbering.now) (tree_at arena.now.items expr)) }
+    ensures error { IfErr result (IsErrorAt at.0 (IsFaultOver at.0 (group_tables df.now numbering.now) (tree_at arena.now.items expr))) }
+    ensures made { OnOk result (IfSome tables.new (λ made. made ≡ group_tables df.now numbering.now)) }
+{
+    // There are few enough rows that a count of them is a value.
+    let _height = df.height();
+    match reduction_of(expr, arena, df.schema()) {
+        Some(reduction) => reduced_column(alloc, reduction, df, numbering, dtype),
+        None => {
+            let tables = tables.get_or_try_insert_with(|| tables_by_key(alloc, df, numbering))?;
+            evaluated_column(alloc, at, expr, arena, tables, dtype)
+        }
+    }
+}
+
+// The column of a reduction over groups.
+fn reduced_column(
+    alloc: Global,
+    reduction: Reduction,
+    df: &DataFrame,
+    numbering: &Numbering,
+    dtype: DataType,
+) -> PolarsResult<Column>
+    requires within { ReadsWithin (length df.now.schema) reduction }
+    requires groups { IsNumberingOf df.now numbering.now }
+    requires fit { IsTrue (all_fit dtype (reduced_values df.now (length numbering.now.firsts.items) numbering.now.keys.items reduction)) }
+    ensures made { IfOk result (λ c. c ≡ record { kind = dtype; values = reduced_values df.now (length numbering.now.firsts.items) numbering.now.keys.items reduction }) }
+    ensures memory { OnErr result (result ≡ Err PolarsError.OutOfMemory) }
+{
+    let keys = numbering.keys.as_slice();
+    match reduced(alloc, reduction, df, keys, numbering.firsts.len()) {
+        Ok(values) => column_of_values(alloc, dtype, values),
+        Err(_) => Err(PolarsError::OutOfMemory),
+    }
+}
+
+// The column of an aggregate: its value over the table of each group.
+fn evaluated_column(
     alloc: Global,
     at: Node,
     expr: Node,

@@ -17,7 +17,6 @@ ghost use Rattle.ps_plan.specs.Steps.{group_step, key_trees, named_trees};
 ghost use Rattle.ps_zip.specs.Zips.{AreTypedOver};
 
 use crate::aggregates::aggregate_columns;
-use crate::tables::tables_by_key;
 use ps_frame::column::Column;
 use ps_frame::expr::AExpr;
 use ps_frame::frame::DataFrame;
@@ -112,8 +111,7 @@ fn values_of_groups(
     ensures columns { IfOk result (λ columns. AllZip (IsAggregate at.0 (key_frames keyed.now.table.schema (keyed_rows keyed.now.table keyed.now.keys.items))) (key_trees (tree_at arena.now.items) aggs.now) columns.items) }
     ensures fault { IfErr result (IsErrorAt at.0 (IsFaultOfGroups at.0 (table_groups at.0 (key_trees (tree_at arena.now.items) aggs.now) keyed.now.table keyed.now.keys.items))) }
 {
-    let tables = tables_by_key(alloc, &keyed.table, numbering)?;
-    aggregate_columns(alloc, at, aggs, arena, &tables, schema)
+    aggregate_columns(alloc, at, aggs, arena, &keyed.table, numbering, schema)
 }
 
 // The table of the keys at their first rows, and of the values of their groups.

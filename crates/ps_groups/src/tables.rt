@@ -4,8 +4,7 @@ ghost use Rattle.std.specs.List.{All, AllByRecursion, concat};
 ghost use Rattle.ps_frame.specs.Aggregates.{max_rows};
 ghost use Rattle.ps_frame.specs.Lawful.{FitsFrame};
 ghost use Rattle.ps_frame.specs.Typed.{all_fit};
-ghost use Rattle.ps_groups.specs.Tables.{table_at};
-ghost use Rattle.ps_keys.specs.KeyRows.{AreBelow, places_of_each};
+ghost use Rattle.ps_groups.specs.Tables.{IsNumberingOf, group_tables, table_at};
 
 use crate::distinct::gathered;
 use ps_frame::column::Column;
@@ -92,19 +91,16 @@ pub(crate) fn tables_by_key(
     df: &DataFrame,
     numbering: &Numbering,
 ) -> Result<GroupTables, AllocError>
-    requires below { AreBelow (length numbering.now.firsts.items) numbering.now.keys.items }
-    requires long { length numbering.now.keys.items ≡ length df.now.rows }
-    ensures tables { IfOk result (λ tables. tables ≡ map (table_at df.now) (places_of_each (length numbering.now.firsts.items) numbering.now.keys.items)) }
-    ensures fit { IfOk result (All FitsFrame) }
+    requires { IsNumberingOf df.now numbering.now }
+    ensures { IfOk result (λ tables. tables ≡ group_tables df.now numbering.now) }
 {
-    table_fits(df);
     let _height = df.height();
     let groups = rows_by_key(alloc, numbering.keys.as_slice(), numbering.firsts.len())?;
     GroupTables::new(alloc, df, groups)
 }
 
-// Each row of a table has a value for each field: a law for proofs, which goes once over the columns.
-fn table_fits(df: &DataFrame)
+/// Each row of a table has a value for each field: a law for proofs, which goes once over the columns.
+pub(crate) fn table_fits(df: &DataFrame)
     ensures { FitsFrame df.now }
 {
     columns_fit(df.get_columns());

@@ -1,56 +1,39 @@
-use Rattle.std.proofs.Common.{◌≡◌, ◌<◌, [], length, get_or, map, take, inr, arith, subst, sym, ap, ◌∙◌}
-use Rattle.std.specs.Prelude.{IsTrue, Ok, Err}
-use Rattle.std.proofs.lemmas.List.{take_all}
+use Rattle.std.proofs.Common.{◌≡◌, arith, rules, ap, subst, sym}
+use Rattle.std.specs.Prelude.{Some}
+use Rattle.std.specs.List.{All}
+use Rattle.std.proofs.lemmas.Grind.{common_steps}
 use Rattle.std.proofs.lemmas.Result.{IfOk-weaker}
-use Rattle.ps_frame.specs.Causes.{column_causes}
-use Rattle.ps_frame.specs.Eval.{eval}
-use Rattle.ps_frame.specs.Tables.{Frame, whole}
+use Rattle.ps_frame.specs.Lawful.{FitsFrame}
+use Rattle.ps_frame.specs.Tables.{Fields, Frame}
 use Rattle.ps_frame.specs.Trees.{tree_at}
-use Rattle.ps_frame.specs.Typed.{Typed, all_fit}
-use Rattle.ps_plan.specs.Groups.{only_value}
-use Rattle.ps_groups.specs.Grouped.{IsValueOf}
-use Rattle.ps_groups.proofs.Values.{clean-more, fault-over, values-fit, values-more}
+use Rattle.ps_frame.specs.Typed.{Typed}
+use Rattle.ps_frame.specs.Typing.{kind_over}
+use Rattle.ps_groups.specs.Reductions.{Reduces}
+use Rattle.ps_groups.specs.Tables.{group_tables}
+use Rattle.ps_groups.proofs.Reducing.{fit-over, is-aggregate, kinds-over, reduced-fit}
 use Rattle.ps_groups.proofs.aggregates.aggregate_column.Goals as goal
 
-pub loop-group-preserved : goal.loop-group-preserved
-loop-group-preserved c =
-    let at = c.args.at.0 in
+pub reduced_column-requires-clause-fit : goal.reduced_column-requires-clause-fit
+reduced_column-requires-clause-fit c =
     let t = tree_at c.args.arena.now.items c.args.expr in
-    let tables = c.args.tables.now in
-    let i = c.loop-group.group in
-    let within : i < length tables = omega arith in
-    let here : (f : Frame) → IsValueOf at (get_or tables i f) t (Ok c.in-Ok.value) = λ f. rw c.in-Ok.is at (c.in_ok-value.ensures at f) in
-    record {
-      values = values-more at t tables i c.in-Ok.value c.loop-group.values.items c.push.new.self.items within c.loop-group.invariant.values (λ f. (here f).1) c.in_ok-push-in-Ok.ensures.items;
-      clean = clean-more (λ f. column_causes (eval at (whole f) t) ≡ []) tables i c.loop-group.invariant.clean (λ f. (here f).0);
-    }
+    let reduces = subst (λ (s : Fields). Reduces s t c.in-Some.reduction) c.schema.ensures c.in-Some.ensures.reduces in
+    reduced-fit c.args.at.0 c.args.df.now c.args.numbering.now c.requires.groups t c.in-Some.reduction (omega (arith, c.height-height.ensures.rows, c.height-height.ensures.counted)) reduces c.args.dtype c.requires.fit c.requires.kind
 
-pub returns-in-Err-clause-error : goal.returns-in-Err-clause-error
-returns-in-Err-clause-error c =
-    let at = c.args.at.0 in
+pub returns-in-Some-clause-column : goal.returns-in-Some-clause-column
+returns-in-Some-clause-column c =
     let t = tree_at c.args.arena.now.items c.args.expr in
-    let tables = c.args.tables.now in
-    let i = c.loop-group.group in
-    let within : i < length tables = omega arith in
-    let here : (f : Frame) → IsValueOf at (get_or tables i f) t (Err c.in-Err.fault) = λ f. rw c.in-Err.is at (c.in_ok-value.ensures at f) in
-    inr (c.in-Err.fault, c.fault_at.ensures, fault-over at t tables i c.in-Err.fault within here)
+    let reduces = subst (λ (s : Fields). Reduces s t c.in-Some.reduction) c.schema.ensures c.in-Some.ensures.reduces in
+    IfOk-weaker c.reduced_column.result _ _
+    (λ column made. is-aggregate c.args.at.0 c.args.df.now c.args.numbering.now c.requires.groups t c.in-Some.reduction (omega (arith, c.height-height.ensures.rows, c.height-height.ensures.counted)) reduces column (ap (λ (x : Typed). x.values) made))
+    c.reduced_column.ensures.made
 
-pub column_of_values-requires : goal.column_of_values-requires
-column_of_values-requires c =
-    let at = c.args.at.0 in
+pub evaluated_column-requires-clause-kinds : goal.evaluated_column-requires-clause-kinds
+evaluated_column-requires-clause-kinds c =
     let t = tree_at c.args.arena.now.items c.args.expr in
-    let tables = c.args.tables.now in
-    let all : take c.loop-group.group tables ≡ tables = take_all c.loop-group.group tables (omega arith) in
-    let values = c.loop-group.invariant.values ∙ ap (map (λ f. only_value (eval at (whole f) t))) all in
-    subst (λ vs. IsTrue (all_fit c.args.dtype vs)) (sym values) (values-fit at c.args.dtype t tables c.requires.fit c.requires.kinds)
+    let is : c.in_ok-tables-in-None.tables.now ≡ group_tables c.args.df.now c.args.numbering.now = first_of (search rules, grind (arith, common_steps)) in
+    subst (All (λ (f : Frame). kind_over f.schema t ≡ Some c.args.dtype)) (sym is) (kinds-over c.args.at.0 c.args.df.now c.args.numbering.now c.requires.groups t c.args.dtype c.requires.kind)
 
-pub returns-clause-column : goal.returns-clause-column
-returns-clause-column c =
-    let at = c.args.at.0 in
-    let t = tree_at c.args.arena.now.items c.args.expr in
-    let tables = c.args.tables.now in
-    let all : take c.loop-group.group tables ≡ tables = take_all c.loop-group.group tables (omega arith) in
-    let values = c.loop-group.invariant.values ∙ ap (map (λ f. only_value (eval at (whole f) t))) all in
-    IfOk-weaker c.column_of_values.result _ _
-    (λ column is. record { values = ap (λ (x : Typed). x.values) is ∙ values; clean = λ k d within. c.loop-group.invariant.clean k d (omega arith) })
-    c.column_of_values.ensures.made
+pub evaluated_column-requires-clause-fit : goal.evaluated_column-requires-clause-fit
+evaluated_column-requires-clause-fit c =
+    let is : c.in_ok-tables-in-None.tables.now ≡ group_tables c.args.df.now c.args.numbering.now = first_of (search rules, grind (arith, common_steps)) in
+    subst (All FitsFrame) (sym is) (fit-over c.args.at.0 c.args.df.now c.args.numbering.now c.requires.groups c.requires.fit)

@@ -4,7 +4,7 @@ use Rattle.ps_frame.specs.Eval.{eval}
 use Rattle.ps_frame.specs.Tables.{Frame, whole}
 use Rattle.ps_frame.specs.Trees.{tree_at}
 use Rattle.ps_plan.specs.Groups.{only_value}
-use Rattle.ps_groups.proofs.aggregates.aggregate_column.Given as goal
+use Rattle.ps_groups.proofs.aggregates.evaluated_column.Given as goal
 
 abbrev pub invariant-loop-group : goal.invariant-loop-group
 invariant-loop-group l = record {

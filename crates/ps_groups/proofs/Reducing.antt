@@ -1,0 +1,192 @@
+-- Expressions that are reductions.
+use Rattle.std.proofs.Common.{◌≡◌, ℕ, zero, suc, ◌<◌, ◌≤◌, List, [], ◌∷◌, ◌++◌, length, get_or, map, Bool, true, false, not, cond, refl, sym, ap, subst, ◌∙◌, arith}
+use Rattle.std.specs.Prelude.{◌||◌, filter, flat_map, slice_get, if◌then◌else◌, IfSome, IsTrue, Option, None, Some}
+use Rattle.std.specs.Str.{bytes_eq}
+use Rattle.std.specs.List.{All, list_any}
+use Rattle.std.proofs.lemmas.Bool.{le-leb}
+use Rattle.std.proofs.lemmas.List.{length-map}
+use Rattle.std.proofs.lemmas.List.Quantifiers.{position-Some}
+use Rattle.pu_index.specs.declared.arena.Node.{Node}
+use Rattle.ps_eval.proofs.Taking.{aggregate-tree}
+use Rattle.ps_eval.specs.Wholes.{aggregated_of, aggregation_of}
+use Rattle.ps_frame.specs.Aggregates.{aggregate_column, count_column, max_rows, sum_value}
+use Rattle.ps_frame.specs.Causes.{Cell, Column, value, cell_causes, cell_values, column_causes, has_cause, is_empty, whole_column}
+use Rattle.ps_frame.specs.Eval.{eval, from_whole, operand}
+use Rattle.ps_frame.specs.Frames.{kinds_of}
+use Rattle.ps_frame.specs.Gathered.{rows_at}
+use Rattle.ps_frame.specs.Lawful.{FitsFrame}
+use Rattle.ps_frame.specs.Tables.{Fields, Frame, field_index, field_kind, values_at, values_at_some, whole}
+use Rattle.ps_frame.specs.Trees.{Aggregation, Tree, aggregate_tree}
+use Rattle.ps_frame.specs.Typed.{Typed, all_fit}
+use Rattle.ps_frame.specs.Typing.{kind_over}
+use Rattle.ps_frame.specs.Values.{is_null}
+use Rattle.ps_frame.specs.Zip.{below}
+use Rattle.ps_frame.specs.declared.expr.IRAggExpr.{IRAggExpr}
+use Rattle.ps_frame.specs.declared.value.DataFault.TheVariants as fault
+use Rattle.ps_frame.specs.declared.value.DataType.{DataType}
+use Rattle.ps_frame.specs.declared.value.DataType.TheVariants as kind
+use Rattle.ps_frame.specs.declared.value.Value.{Value}
+use Rattle.ps_frame.specs.declared.value.Value.TheVariants as val
+use Rattle.ps_plan.specs.Groups.{only_value}
+use Rattle.ps_keys.specs.Numbering.{places_of}
+use Rattle.ps_keys.specs.declared.numbering.Numbering.{Numbering}
+use Rattle.ps_keys.proofs.FirstRows.{at-below, length-below}
+use Rattle.ps_keys.proofs.KeptRows.{kept-few}
+use Rattle.ps_keys.proofs.Places.{places-few}
+use Rattle.ps_keys.proofs.RowValues.{map-map}
+use Rattle.ps_groups.specs.Grouped.{IsAggregate}
+use Rattle.ps_groups.specs.Reductions.{Reduces, ReducesColumn, count_values, reduced_value, reduced_values, values_of_key}
+use Rattle.ps_groups.specs.Tables.{IsNumberingOf, group_tables, table_at}
+use Rattle.ps_groups.specs.declared.reductions.Reduction.{Reduction}
+use Rattle.ps_groups.specs.declared.reductions.Reduction.TheVariants as reduction
+use Rattle.ps_groups.proofs.KeyTables.{tables-fit}
+use Rattle.ps_groups.proofs.Values.{values-fit}
+
+-- a column of values has no causes, and gives them back
+values-back : (vs : List Value) → cell_values (map value vs) ≡ vs
+values-back [] = refl
+values-back (v ∷ vs) = ap (λ ws. v ∷ ws) (values-back vs)
+
+no-causes : (vs : List Value) → flat_map cell_causes (map value vs) ≡ []
+no-causes [] = refl
+no-causes (v ∷ vs) = no-causes vs
+
+-- what takes a whole operand takes its values
+of-values : (F : List (List Value) → Column) (vs : List Value) → from_whole F (whole_column vs ∷ []) ≡ record (F (vs ∷ [])) { lost = [] }
+of-values F vs =
+    let clean : list_any has_cause (whole_column vs ∷ []) ≡ false = ap (λ cs. not (is_empty (cs ++ [])) || false) (no-causes vs) in
+    let c : Column = whole_column vs in
+    let broken : Column = record { cells = []; broken = flat_map column_causes (c ∷ []); lost = flat_map (λ (d : Column). d.lost) (c ∷ []) } in
+    ap (λ b. if b then broken else record (F (map (λ (d : Column). cell_values d.cells) (c ∷ []))) { lost = [] }) clean
+    ∙ ap (λ ws. record (F (ws ∷ [])) { lost = [] }) (values-back vs)
+
+-- the kind of the field at the place of a name
+first-kind : (name : List ℕ) (s : Fields) (i : ℕ) (d : List ℕ × DataType) → i < length s → bytes_eq name (get_or s i d).0 ≡ true → ((j : ℕ) → j < i → bytes_eq name (get_or s j d).0 ≡ false) → field_kind name s ≡ slice_get (kinds_of s) i
+first-kind name [] i d within hit before = absurd (omega arith)
+first-kind name (f ∷ fs) zero d within hit before = rw hit refl
+first-kind name (f ∷ fs) (suc i) d within hit before =
+    let miss : bytes_eq name f.0 ≡ false = before 0 (omega arith) in
+    rw miss (first-kind name fs i d (omega arith) hit (λ j h. before (suc j) (omega arith)))
+
+kind-at : (name : List ℕ) (s : Fields) (i : ℕ) → i < length s → field_index name s ≡ Some i → field_kind name s ≡ slice_get (kinds_of s) i
+kind-at name s i within there =
+    let d : List ℕ × DataType = ([], kind.Int64) in
+    let first = position-Some (λ (f : List ℕ × DataType). bytes_eq name f.0) s i d there in
+    first-kind name s i d within first.1 first.2
+
+-- a count that isn't too large
+count-is : (at n : ℕ) → n ≤ max_rows → count_column at n ≡ whole_column (val.IdxSize n ∷ [])
+count-is at n few =
+    let large : Column = record { cells = []; broken = record { fault = fault.Rows; node = at } ∷ []; lost = [] } in
+    ap (λ b. if b then whole_column (val.IdxSize n ∷ []) else large) (le-leb n max_rows few)
+
+-- an aggregate of a column takes the values at its place
+of-column : (at : ℕ) (f : Frame) (a : Aggregation) (name : List ℕ) (i : ℕ) → field_index name f.schema ≡ Some i
+    → eval at (whole f) (Tree.aggregate a (Tree.column name)) ≡ record (aggregate_column at a (field_kind name f.schema) (values_at i f.rows)) { lost = [] }
+of-column at f a name i there =
+    let F : List (List Value) → Column = λ vs. aggregate_column at a (field_kind name f.schema) (operand 0 vs) in
+    ap (λ o. from_whole F (record { cells = map value (values_at_some o f.rows); broken = []; lost = [] } ∷ [])) there
+    ∙ of-values F (values_at i f.rows)
+
+-- the reductions
+pub len-reduces : (s : Fields) → Reduces s Tree.len reduction.Len
+len-reduces s at f same few = count-is at (length f.rows) few
+
+pub sum-reduces : (i : ℕ) → ReducesColumn Aggregation.sum i (reduction.Sum i)
+sum-reduces i s name within there at f same few =
+    of-column at f Aggregation.sum name i (ap (field_index name) same ∙ there)
+    ∙ ap (λ k. whole_column (sum_value k (values_at i f.rows) ∷ [])) (ap (field_kind name) same ∙ kind-at name s i within there)
+
+pub values-reduce : (i : ℕ) → ReducesColumn (Aggregation.count false) i (reduction.Count i)
+values-reduce i s name within there at f same few =
+    let vs = values_at i f.rows in
+    of-column at f (Aggregation.count false) name i (ap (field_index name) same ∙ there)
+    ∙ ap (λ (c : Column). record c { lost = [] })
+    (count-is at (count_values vs) (omega (arith, kept-few (λ v. not (is_null v)) vs, length-map f.rows (λ (row : List Value). get_or row i val.Null), few)))
+
+pub rows-reduce : (i : ℕ) → ReducesColumn (Aggregation.count true) i reduction.Len
+rows-reduce i s name within there at f same few =
+    let long : length (values_at i f.rows) ≡ length f.rows = length-map f.rows (λ (row : List Value). get_or row i val.Null) in
+    of-column at f (Aggregation.count true) name i (ap (field_index name) same ∙ there)
+    ∙ ap (λ n. record (count_column at n) { lost = [] }) long
+    ∙ ap (λ (c : Column). record c { lost = [] }) (count-is at (length f.rows) few)
+
+-- an aggregate's entry is reduced as its column is
+entry-reduces : (f : Node → Tree) (a : IRAggExpr) (s : Fields) (i : ℕ) (r : Reduction) → i < length s
+    → ((name : List ℕ) × (f (aggregated_of a) ≡ Tree.column name) × (field_index name s ≡ Some i)) → ReducesColumn (aggregation_of a) i r → Reduces s (aggregate_tree f a) r
+entry-reduces f a s i r within (name, is, there) reduces =
+    subst (λ t. Reduces s t r) (sym (aggregate-tree f a ∙ ap (Tree.aggregate (aggregation_of a)) is)) (reduces s name within there)
+
+pub reduces-column : (f : Node → Tree) (a : IRAggExpr) (s : Fields) (i : ℕ) (n : Node) (o : Option Reduction) → n ≡ aggregated_of a → i < length s
+    → ((name : List ℕ) × (f n ≡ Tree.column name) × (field_index name s ≡ Some i)) → IfSome o (ReducesColumn (aggregation_of a) i) → IfSome o (Reduces s (aggregate_tree f a))
+reduces-column f a s i n None e within column h = tt
+reduces-column f a s i n (Some r) e within column h = entry-reduces f a s i r within (subst (λ m. (name : List ℕ) × (f m ≡ Tree.column name) × (field_index name s ≡ Some i)) e column) h
+
+-- the values at a place of rows that are picked
+read-at : (i : ℕ) (rows : List (List Value)) (p : ℕ) → get_or (values_at i rows) p val.Null ≡ get_or (get_or rows p []) i val.Null
+read-at i [] p = refl
+read-at i (r ∷ rows) zero = refl
+read-at i (r ∷ rows) (suc p) = read-at i rows p
+
+values-picked : (i : ℕ) (rows : List (List Value)) (places : List ℕ) → map (λ p. get_or (values_at i rows) p val.Null) places ≡ values_at i (rows_at places rows)
+values-picked i rows [] = refl
+values-picked i rows (p ∷ places) = λ j. read-at i rows p j ∷ values-picked i rows places j
+
+-- the values of reductions over the rows of each key
+module _ (f : Frame) (count : ℕ) (keys : List ℕ) (i : ℕ) (r : Reduction) where
+  pub counts-reduced : (vs : List Value) → vs ≡ values_at i f.rows → r ≡ reduction.Count i → map (λ k. val.IdxSize (count_values (values_of_key vs keys k))) (below count) ≡ reduced_values f count keys r
+  counts-reduced vs values is =
+      (λ j. map (λ k. val.IdxSize (count_values (values_of_key (values j) keys k))) (below count))
+      ∙ (λ j. map (λ k. val.IdxSize (count_values (values-picked i f.rows (places_of k keys) j))) (below count))
+      ∙ ap (reduced_values f count keys) (sym is)
+
+  pub sums-reduced : (c : Typed) → slice_get (kinds_of f.schema) i ≡ Some c.kind → c.values ≡ values_at i f.rows → r ≡ reduction.Sum i
+      → map (λ k. sum_value (Some c.kind) (values_of_key c.values keys k)) (below count) ≡ reduced_values f count keys r
+  sums-reduced c kind values is =
+      (λ j. map (λ k. sum_value (sym kind j) (values_of_key (values j) keys k)) (below count))
+      ∙ (λ j. map (λ k. sum_value (slice_get (kinds_of f.schema) i) (values-picked i f.rows (places_of k keys) j)) (below count))
+      ∙ ap (reduced_values f count keys) (sym is)
+
+-- an expression that is a reduction, over the tables of groups
+module _ (at : ℕ) (f : Frame) (n : Numbering) (of : IsNumberingOf f n) where
+  abbrev count : ℕ
+  count = length n.firsts.items
+
+  abbrev own : ℕ → Frame
+  own k = table_at f (places_of k n.keys.items)
+
+  each-table : group_tables f n ≡ map own (below count)
+  each-table = map-map (table_at f) (λ k. places_of k n.keys.items) (below count)
+
+  table-found : (k : ℕ) (d : Frame) → k < length (group_tables f n) → get_or (group_tables f n) k d ≡ own k
+  table-found k d within =
+      ap (λ fs. get_or fs k d) each-table
+      ∙ at-below own count k d (omega (arith, ap length each-table, length-map (below count) own, length-below count))
+
+  -- the tables have the schema of the whole
+  pub kinds-over : (t : Tree) (k : DataType) → kind_over f.schema t ≡ Some k → All (λ (g : Frame). kind_over g.schema t ≡ Some k) (group_tables f n)
+  kinds-over t k e i d within = subst (λ (g : Frame). kind_over g.schema t ≡ Some k) (sym (table-found i d within)) e
+
+  pub fit-over : FitsFrame f → All FitsFrame (group_tables f n)
+  fit-over fits = tables-fit f count n.keys.items fits of.long
+
+  module _ (t : Tree) (r : Reduction) (small : length f.rows ≤ max_rows) (reduces : Reduces f.schema t r) where
+    one-cell : (k : ℕ) → eval at (whole (own k)) t ≡ whole_column (reduced_value f.schema (rows_at (places_of k n.keys.items) f.rows) r ∷ [])
+    one-cell k =
+        reduces at (own k) refl
+        (omega (arith, length-map (places_of k n.keys.items) (λ i. get_or f.rows i []), places-few k n.keys.items, of.long, small))
+
+    values-are : map (λ (g : Frame). only_value (eval at (whole g) t)) (group_tables f n) ≡ reduced_values f count n.keys.items r
+    values-are =
+        ap (map (λ (g : Frame). only_value (eval at (whole g) t))) each-table
+        ∙ map-map (λ (g : Frame). only_value (eval at (whole g) t)) own (below count)
+        ∙ (λ j. map (λ k. only_value (one-cell k j)) (below count))
+
+    pub reduced-fit : (k : DataType) → FitsFrame f → kind_over f.schema t ≡ Some k → IsTrue (all_fit k (reduced_values f count n.keys.items r))
+    reduced-fit k fits kind = subst (λ vs. IsTrue (all_fit k vs)) values-are (values-fit at k t (group_tables f n) (fit-over fits) (kinds-over t k kind))
+
+    pub is-aggregate : (c : Typed) → c.values ≡ reduced_values f count n.keys.items r → IsAggregate at (group_tables f n) t c
+    is-aggregate c values = record {
+      values = values ∙ sym values-are;
+      clean = λ k d within. subst (λ (g : Frame). column_causes (eval at (whole g) t) ≡ []) (sym (table-found k d within)) (ap column_causes (one-cell k));
+    }
