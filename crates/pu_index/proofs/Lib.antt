@@ -1,4 +1,5 @@
 pub mod CallsPush
+pub mod Counting
 pub mod InMemory
 pub mod Listings
 pub mod Marks

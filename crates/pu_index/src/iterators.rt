@@ -1,5 +1,5 @@
 // Iterators that are collected or numbered.
-ghost use Rattle.std.specs.Prelude.{◌≡◌, ◌+◌, ◌^◌, ◌<◌, ◌≤◌, ◌++◌, ◌∷◌, [], List, length, Ok, Err, map, Some, IfOk, OnErr, MatchResult, false};
+ghost use Rattle.std.specs.Prelude.{◌≡◌, ◌+◌, ◌+ℤ◌, ◌^◌, ◌<◌, ◌≤◌, ◌++◌, ◌∷◌, [], List, length, Ok, Err, map, Some, IfOk, OnErr, MatchResult, false};
 ghost use Rattle.std.specs.Bool.{OnTrue, OnFalse};
 ghost use Rattle.std.specs.Iterator.{Drains, YieldsThen, IsFinite, IsFiniteIterable, size};
 ghost use Rattle.pu_index.specs.Compared.{AllAlike, ComparesByEq, ComparesByPartialCmp};
@@ -7,6 +7,7 @@ ghost use Rattle.pu_index.specs.Counted.{source, number};
 ghost use Rattle.pu_order.specs.declared.error.PolarsUtilsError.TheVariants as refusal;
 
 use crate::idx::IdxSize;
+use num_traits::{FromPrimitive, Integral, One, Zero};
 use pu_order::Result;
 use std::alloc::Global;
 use std::cmp::Ordering;
@@ -15,39 +16,41 @@ use std::result::Result as Outcome;
 
 /// An iterator that numbers the items of another, from 0 on.
 #[derive(Drop)]
-pub struct EnumerateIdx<I> {
+pub struct EnumerateIdx<I, N> {
     iter: I,
-    count: IdxSize,
+    count: N,
 }
 
-impl<I> EnumerateIdx<I> {
-    /// Numbers the items of an iterator, which has to have fewer than 2^32 of them.
-    pub fn new(iter: I) -> EnumerateIdx<I>
+impl<I, N: Zero> EnumerateIdx<I, N> {
+    /// Numbers the items of an iterator. The type of the numbers has to have how many there are.
+    pub fn new(iter: I) -> EnumerateIdx<I, N>
         ensures source { source result ≡ iter }
-        ensures number { number result ≡ 0 }
+        ensures number { number result ≡ N.zero }
     {
-        EnumerateIdx { iter, count: 0 }
+        EnumerateIdx {
+            iter,
+            count: N::zero(),
+        }
     }
 }
 
-impl<I: Iterator> Iterator for EnumerateIdx<I> {
-    type Item = (IdxSize, I::Item);
+impl<I: Iterator, N: Copy + Zero + One + Integral> Iterator for EnumerateIdx<I, N> {
+    type Item = (N, I::Item);
 
-    ghost use Rattle.std.specs.Prelude.{◌+◌, ◌^◌, ◌<◌};
     ghost use Rattle.std.specs.Iterator.{IsFinite, size};
-    ghost use Rattle.pu_index.specs.Counted.{source, number, counted_steps};
+    ghost use Rattle.pu_index.specs.Counted.{source, number, HasNumbers, counted_steps};
 
-    ghost can_next = { λ s. I.can_next (source s) × IsFinite (I.remaining (source s)) × (number s + size (I.remaining (source s)) < 2 ^ 32) };
+    ghost can_next = { λ s. I.can_next (source s) × IsFinite (I.remaining (source s)) × HasNumbers N.value N.fits (number s) (size (I.remaining (source s))) };
 
-    ghost next_gives = { counted_steps I.next_gives };
+    ghost next_gives = { counted_steps N.value I.next_gives };
 
     ghost remaining = { λ s. I.remaining (source s) };
 
-    fn next(&mut self) -> Option<(IdxSize, I::Item)> {
+    fn next(&mut self) -> Option<(N, I::Item)> {
         match self.iter.next() {
             Some(item) => {
                 let number = self.count;
-                self.count = number + 1;
+                self.count = further(number, N::one());
                 Some((number, item))
             }
             None => None,
@@ -59,34 +62,45 @@ impl<I: Iterator> Iterator for EnumerateIdx<I> {
     }
 }
 
-impl<I: ExactSizeIterator + DoubleEndedIterator> DoubleEndedIterator for EnumerateIdx<I> {
-    ghost use Rattle.std.specs.Prelude.{◌+◌, ◌^◌, ◌<◌};
+impl<
+    I: ExactSizeIterator + DoubleEndedIterator,
+    N: Copy + Zero + One + Integral + FromPrimitive,
+> DoubleEndedIterator for EnumerateIdx<I, N> {
     ghost use Rattle.std.specs.Iterator.{IsFinite, size};
-    ghost use Rattle.pu_index.specs.Counted.{source, number, counted_steps_back};
+    ghost use Rattle.pu_index.specs.Counted.{source, number, HasNumbers, counted_steps_back};
 
-    ghost can_next_back = { λ s. I.can_next_back (source s) × IsFinite (I.remaining (source s)) × (number s + size (I.remaining (source s)) < 2 ^ 32) };
+    ghost can_next_back = { λ s. I.can_next_back (source s) × IsFinite (I.remaining (source s)) × HasNumbers N.value N.fits (number s) (size (I.remaining (source s))) };
 
-    ghost next_back_gives = { counted_steps_back I.next_back_gives (λ i. size (I.remaining i)) };
+    ghost next_back_gives = { counted_steps_back N.value I.next_back_gives (λ i. size (I.remaining i)) };
 
-    fn next_back(&mut self) -> Option<(IdxSize, I::Item)> {
+    fn next_back(&mut self) -> Option<(N, I::Item)> {
         match self.iter.next_back() {
-            Some(item) => {
-                let before = self.iter.len();
-                Some((self.count + before as IdxSize, item))
-            }
+            Some(item) => match N::from_usize(self.iter.len()) {
+                Some(before) => Some((further(self.count, before), item)),
+                None => unreachable!(),
+            },
             None => None,
         }
     }
 }
 
-impl<I: ExactSizeIterator> ExactSizeIterator for EnumerateIdx<I> {
+impl<I: ExactSizeIterator, N: Copy + Zero + One + Integral> ExactSizeIterator
+    for EnumerateIdx<I, N> {
     fn len(&self) -> usize {
         self.iter.len()
     }
 }
 
+// The number that comes so many behind another.
+fn further<N: Zero + Integral>(number: N, by: N) -> N
+    requires { N.fits (N.value number +ℤ N.value by) }
+    ensures { N.value result ≡ N.value number +ℤ N.value by }
+{
+    number + by
+}
+
 /// Numbers the items of an iterator as rows.
-pub fn enumerate_idx<I: Iterator>(iter: I) -> EnumerateIdx<I>
+pub fn enumerate_idx<I: Iterator>(iter: I) -> EnumerateIdx<I, IdxSize>
     ensures source { source result ≡ iter }
     ensures number { number result ≡ 0 }
 {
@@ -94,11 +108,11 @@ pub fn enumerate_idx<I: Iterator>(iter: I) -> EnumerateIdx<I>
 }
 
 /// Numbers the items of an iterator in 32 bits.
-pub fn enumerate_u32<I: Iterator>(iter: I) -> EnumerateIdx<I>
+pub fn enumerate_u32<I: Iterator>(iter: I) -> EnumerateIdx<I, u32>
     ensures source { source result ≡ iter }
     ensures number { number result ≡ 0 }
 {
-    enumerate_idx(iter)
+    EnumerateIdx::new(iter)
 }
 
 /// The items of an iterator.

@@ -28,6 +28,15 @@ fn numbers_from_both_ends(rt: HostRuntime) {
 }
 
 #[test]
+fn numbers_in_other_types(rt: HostRuntime) {
+    let mut numbered = EnumerateIdx::<_, i8>::new([5u8, 6].iter().copied());
+    assert_eq!(rt; numbered.next(), Some((0i8, 5)));
+    assert_eq!(rt; numbered.next_back(), Some((1, 6)));
+    let mut numbered = EnumerateIdx::<_, usize>::new([5u8, 6].iter().copied());
+    assert_eq!(rt; numbered.next_back(), Some((1usize, 6)));
+}
+
+#[test]
 fn cuts_chunks(rt: HostRuntime) {
     let mut chunks = Chunks::new(&[1, 2, 3, 4, 5], 2);
     assert_eq!(rt; chunks.len(), 3);
