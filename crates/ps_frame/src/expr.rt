@@ -4,6 +4,7 @@ use crate::value::DataType;
 use pu_index::Node;
 use pu_order::PlSmallStr;
 
+/// A value that an expression states. A null is of a kind too.
 #[derive(Drop)]
 pub enum LiteralValue {
     Null(DataType),
@@ -13,6 +14,8 @@ pub enum LiteralValue {
     String(PlSmallStr),
 }
 
+/// What is done with two operands: comparisons, arithmetic that wraps, division that rounds down with its remainder, and
+/// logic of three values.
 #[derive(Clone, Copy, Debug, PartialEq, Eq)]
 pub enum Operator {
     Eq,
@@ -30,6 +33,7 @@ pub enum Operator {
     Or,
 }
 
+/// One cell from a column. A count also counts nulls where its flag says so.
 #[derive(Clone, Copy, Debug)]
 pub enum IRAggExpr {
     Min(Node),
@@ -41,6 +45,7 @@ pub enum IRAggExpr {
     Count(Node, bool),
 }
 
+/// What is done with a column by itself.
 #[derive(Clone, Copy, Debug, PartialEq, Eq)]
 pub enum FunctionExpr {
     Not,
@@ -129,6 +134,7 @@ impl What {
     }
 }
 
+/// An expression. It names those that it stands on by their numbers in the arena.
 #[derive(Drop)]
 pub enum AExpr {
     Column(PlSmallStr),
