@@ -4,7 +4,7 @@ use crate::plain::{Key, distinct, filter, group, join, slice, sort};
 use ps_plan::ir::{JoinType, UniqueKeepStrategy};
 use std::test::Fail;
 
-const EXPRS: &str = r#"["col","k"],["col","a"],["sum",1],["len"],["int",2],["gt",1,4]"#;
+const EXPRS: &str = r#"["col","k"],["col","a"],["sum",1],["len"],["int",2],["gt",1,4],["min",1]"#;
 
 #[test]
 fn joins(rt: HostRuntime) -> Result<(), Fail> {
@@ -56,7 +56,7 @@ fn groups(rt: HostRuntime) -> Result<(), Fail> {
             let wanted = group(alloc, rows.as_slice(), places, 1)?;
             for maintained in [true, false] {
                 let node = format!(in alloc;
-                    "[\"group_by\",0,[{keys}],[[\"s\",2],[\"n\",3]],{maintained},null]"
+                    "[\"group_by\",0,[{keys}],[[\"s\",2],[\"m\",6],[\"n\",3]],{maintained},null]"
                 )?;
                 let given = rows_from(alloc, &[text.as_str()], EXPRS, node.as_str())?;
                 let agree = if maintained {

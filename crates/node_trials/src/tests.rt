@@ -175,6 +175,18 @@ fn groups_and_distinct_rows_take_nulls_for_equal(rt: HostRuntime) -> Result<(), 
 
 // The first four kinds of join may give their rows in any order, so these are sorted.
 #[test]
+fn groups_add_up_each_kind(rt: HostRuntime) -> Result<(), Fail> {
+    let table =
+        r#"[["k","int",[1,2,1]],["b","bool",[true,false,true]],["i","idx",[4294967295,7,2]],["t","str",["x",null,null]]]"#;
+    let exprs =
+        r#"["col","k"],["col","b"],["col","i"],["col","t"],["sum",1],["sum",2],["count",3,false]"#;
+    let node = r#"["group_by",0,[["k",0]],[["s",4],["u",5],["c",6]],true,null]"#;
+    let text = run(rt.alloc(), &[table], exprs, &[node])?;
+    assert_eq!(rt; text.as_str(), "k,s,u,c\n1,2,1,1\n2,0,7,0");
+    Ok(())
+}
+
+#[test]
 fn joins_match_equal_keys(rt: HostRuntime) -> Result<(), Fail> {
     let alloc = rt.alloc();
     let exprs = r#"["col","k"],["col","a"],["col","b"]"#;

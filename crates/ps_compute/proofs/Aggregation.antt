@@ -61,7 +61,7 @@ idx-sum kind.Int64 vs h = grind arith
 idx-sum kind.IdxSize vs h = refl
 idx-sum kind.String vs h = refl
 
-pub idx-sum-is : (k : DataType) (vs : List Value) (s : ℤ) (n : ℕ) → (k ≡ kind.Boolean) ⊎ ((k ≡ kind.IdxSize) ⊎ (k ≡ kind.String)) → FitsSigned w64 s → s ≡ int_wrap w64 (total vs)
-    → n ≡ wrap_idx (cast_signed w64 (cast_unsigned w64 s)) → val.IdxSize n ≡ sum_value (Some k) vs
-idx-sum-is k vs s n h fits e is =
-    ap val.IdxSize (is ∙ ap wrap_idx (to_z-of_z w64 s fits ∙ e) ∙ wrap-wrap (total vs)) ∙ sym (idx-sum k vs h)
+-- what is left of a sum in 32 bits
+pub idx-is : (k : DataType) (vs : List Value) (z : ℤ) (n : ℕ) → (k ≡ kind.Boolean) ⊎ ((k ≡ kind.IdxSize) ⊎ (k ≡ kind.String)) → z ≡ int_wrap w64 (total vs) → n ≡ wrap_idx z
+    → val.IdxSize n ≡ sum_value (Some k) vs
+idx-is k vs z n h is low = ap val.IdxSize (low ∙ ap wrap_idx is ∙ wrap-wrap (total vs)) ∙ sym (idx-sum k vs h)

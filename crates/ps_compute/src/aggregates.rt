@@ -1,5 +1,5 @@
 // Aggregates of the values of a whole operand.
-ghost use Rattle.std.specs.Prelude.{◌≡◌, ◌<◌, ◌+◌, IfOk, OnErr, Err, Some, drop, filter, length, map, not, if◌then◌else◌};
+ghost use Rattle.std.specs.Prelude.{◌≡◌, ◌<◌, ◌+◌, List, IfOk, OnErr, Err, Some, drop, filter, length, map, not, if◌then◌else◌};
 ghost use Rattle.std.specs.Int.{int_wrap, w64};
 ghost use Rattle.std.specs.Option.{option_copied};
 ghost use Rattle.ps_compute.specs.Nullable.{or_null};
@@ -8,6 +8,7 @@ ghost use Rattle.ps_frame.specs.Aggregates.{distinct_values, greater as greater_
 ghost use Rattle.ps_frame.specs.Operators.{wrap_idx};
 ghost use Rattle.ps_frame.specs.Sorting.{first_key};
 ghost use Rattle.ps_frame.specs.Values.{is_null as is_null_value, same_value};
+ghost use Rattle.ps_frame.specs.declared.value.Value.{Value as AValue};
 
 use crate::operators::{compare, int64_sum, is_null};
 use crate::values::ValueList;
@@ -109,8 +110,8 @@ pub fn copy_or_null(alloc: Global, value: Option<&Value>) -> Result<Value, Frame
     }
 }
 
-// What a value adds to a sum: a truth value 0 or 1.
-fn number(value: &Value) -> i64
+/// What a value adds to a sum: a number itself, a truth value 0 or 1, null and a text nothing.
+pub fn number(value: &Value) -> i64
     ensures { result ≡ number_of value.now }
 {
     match value {
@@ -131,8 +132,8 @@ fn total<L: ValueList>(values: &L) -> i64
     sum
 }
 
-fn low_bits(number: i64) -> u32
-    ensures { result ≡ wrap_idx number }
+fn low_bits(number: &i64) -> u32
+    ensures { result ≡ wrap_idx number.now }
 {
     number.rem_euclid(1 << 32) as u32
 }
@@ -144,8 +145,15 @@ pub fn sum<L: ValueList>(dtype: DataType, values: &L) -> Value
     ensures { result ≡ sum_value (Some dtype) (L.values values.now) }
 {
     let sum = total(values);
+    sum_of_kind(dtype, &sum)
+}
+
+/// The sum of values of a kind, by what is left of it in 64 bits.
+pub fn sum_of_kind(dtype: DataType, sum: &i64) -> Value
+    ensures { (vs : List AValue) → sum.now ≡ int_wrap w64 (exact_sum vs) → result ≡ sum_value (Some dtype) vs }
+{
     match dtype {
-        DataType::Int64 => Value::Int64(sum),
+        DataType::Int64 => Value::Int64(*sum),
         DataType::Boolean | DataType::IdxSize | DataType::String => Value::IdxSize(low_bits(sum)),
     }
 }

@@ -235,15 +235,36 @@ fn rows_of_two_keys(alloc: Global) -> Result<Vec<usize>, FrameError> {
 }
 
 // The rows of two keys of whole numbers, of which the first goes up, and the second down.
-fn rows_of_wholes(alloc: Global, far: i64) -> Result<Vec<usize>, FrameError> {
+fn rows_of_wholes(alloc: Global, low: i64, high: i64, far: i64) -> Result<Vec<usize>, FrameError> {
     let mut keys = Vec::new(alloc);
-    keys.push(column(alloc, &[Some(2), Some(-1), Some(2), Some(-1), Some(2)])?)?;
+    keys.push(column(
+        alloc,
+        &[Some(high), Some(low), Some(high), Some(low), Some(high)],
+    )?)?;
     keys.push(column(
         alloc,
         &[Some(-7), Some(-2147483648), Some(far), Some(far), Some(-7)],
     )?)?;
     let directions = directions_for(alloc, 2, &[false, true], &[false])?;
     sorted_rows(alloc, 5, keys.as_slice(), directions.as_slice())
+}
+
+#[test]
+fn orders_whole_numbers(rt: HostRuntime) -> Result<(), Fail> {
+    let alloc = rt.alloc();
+    for (low, high, far) in [
+        (-1, 2, 2147483647),
+        (-1, 2, 9000000000),
+        (1000000000000, 1000000000001, 2147483647),
+        (i64::MIN, i64::MAX, i64::MAX),
+    ] {
+        let rows = rows_of_wholes(alloc, low, high, far)?;
+        assert!(rt;
+            rows.as_slice() == [3, 1, 2, 0, 4].as_slice(),
+            "{low}, {high} and {far}"
+        );
+    }
+    Ok(())
 }
 
 #[test]
@@ -255,8 +276,6 @@ fn orders(rt: HostRuntime) -> Result<(), Fail> {
     let up = sorted_values(Direction::new(false, true), down)?;
     assert!(rt; all_same(&up, &[int(1), int(2), int(3), Value::Null]));
     assert!(rt; rows_of_two_keys(alloc)?.as_slice() == [3, 5, 1, 0, 4, 2].as_slice());
-    assert!(rt; rows_of_wholes(alloc, 2147483647)?.as_slice() == [3, 1, 2, 0, 4].as_slice());
-    assert!(rt; rows_of_wholes(alloc, 9000000000)?.as_slice() == [3, 1, 2, 0, 4].as_slice());
     assert!(rt; directions_for(alloc, 3, &[true], &[false])?.len() == 3);
     Ok(())
 }

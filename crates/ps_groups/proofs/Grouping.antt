@@ -3,7 +3,7 @@ use Rattle.std.proofs.Common.{◌≡◌, ℕ, zero, suc, ◌+◌, ◌-◌, ◌<�
 use Rattle.std.specs.Prelude.{Some}
 use Rattle.std.specs.List.{All, AllByRecursion, AllZip}
 use Rattle.std.proofs.Math.Seq.{drop-append_seam}
-use Rattle.std.proofs.lemmas.List.{drop-map, get_or-map, length-map, map-append}
+use Rattle.std.proofs.lemmas.List.{drop-map, length-map, map-append}
 use Rattle.std.proofs.lemmas.Grind.{get_or_default_zero}
 use Rattle.ps_frame.proofs.Rows.{length-rows_of}
 use Rattle.ps_frame.specs.Aggregates.{max_rows}
@@ -16,7 +16,7 @@ use Rattle.ps_frame.specs.Typing.{kind_over}
 use Rattle.ps_frame.specs.declared.refusal.PolarsError.{PolarsError}
 use Rattle.ps_frame.specs.declared.value.DataType.{DataType}
 use Rattle.ps_frame.specs.declared.value.Value.{Value}
-use Rattle.ps_plan.specs.Groups.{Group, keys_of}
+use Rattle.ps_plan.specs.Groups.{Group}
 use Rattle.ps_keys.specs.KeyRows.{AreBelow, places_of_each}
 use Rattle.ps_keys.specs.Numbering.{Numbers}
 use Rattle.ps_keys.specs.declared.numbering.Numbering.{Numbering}
@@ -24,7 +24,7 @@ use Rattle.ps_keys.proofs.Numberings.{firsts-below, keys-length}
 use Rattle.ps_keys.proofs.RowValues.{map-map}
 use Rattle.ps_rows.proofs.Rows.{drop-front, take-front}
 use Rattle.ps_groups.specs.Errors.{IsErrorAt}
-use Rattle.ps_groups.specs.Grouped.{CanGroup, IsAggregate, IsFaultOfAny, IsFaultOfGroups, all_causes, key_frame, key_frames, keyed_rows, last_fields, table_groups}
+use Rattle.ps_groups.specs.Grouped.{CanGroup, IsAggregate, IsFaultOfAny, IsFaultOfGroups, all_causes, key_frames, keyed_rows, last_fields, table_groups}
 use Rattle.ps_groups.specs.Tables.{table_at}
 use Rattle.ps_groups.proofs.GroupRows.{fault-of-groups, group-heights, group-rows, no-causes}
 use Rattle.ps_groups.proofs.Kept.{firsts-few, keys-below-firsts}

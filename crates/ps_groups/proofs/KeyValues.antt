@@ -1,5 +1,5 @@
 -- A column's values in the rows of each key, as the rows are gone over.
-use Rattle.std.proofs.Common.{◌≡◌, ℕ, suc, ◌+◌, ◌<◌, ◌≤◌, ℤ, pos, ◌+ℤ◌, FitsSigned, List, [], ◌∷◌, ◌++◌, length, get_or, set, take, map, not, replicate, refl, sym, ap, subst, ◌∙◌, arith, inl, inr, ◌⊎◌, length-append}
+use Rattle.std.proofs.Common.{◌≡◌, ℕ, suc, ◌+◌, ◌<◌, ◌≤◌, ℤ, ◌+ℤ◌, FitsSigned, List, [], ◌∷◌, ◌++◌, length, get_or, set, take, map, not, replicate, refl, sym, ap, subst, ◌∙◌, arith, inl, inr, length-append}
 use Rattle.std.specs.Prelude.{filter, slice_get, Some}
 use Rattle.std.specs.Int.{cast_signed, cast_unsigned, int_wrap, w64}
 use Rattle.std.specs.List.{All}
@@ -10,13 +10,10 @@ use Rattle.std.proofs.lemmas.Int.{SFits-int_wrap, to_z-of_z}
 use Rattle.std.proofs.lemmas.List.{get_or-replicate, get_or-set_other, get_or-set_same, get_or_push, length-map, length-replicate, length-set, length_push, map_push, take_all}
 use Rattle.std.proofs.lemmas.List.Elements.{filter-append}
 use Rattle.std.proofs.lemmas.Option.{slice_get-get_or}
-use Rattle.ps_compute.proofs.Aggregation.{idx-sum-is, total-more}
-use Rattle.ps_frame.specs.Aggregates.{max_rows, number_of, sum_value, total}
-use Rattle.ps_frame.specs.Operators.{wrap_idx}
+use Rattle.ps_compute.proofs.Aggregation.{total-more}
+use Rattle.ps_frame.specs.Aggregates.{max_rows, number_of, total}
 use Rattle.ps_frame.specs.Values.{is_null}
 use Rattle.ps_frame.specs.Zip.{below}
-use Rattle.ps_frame.specs.declared.value.DataType.{DataType}
-use Rattle.ps_frame.specs.declared.value.DataType.TheVariants as kind
 use Rattle.ps_frame.specs.declared.value.Value.{Value}
 use Rattle.ps_frame.specs.declared.value.Value.TheVariants as val
 use Rattle.ps_keys.specs.KeyRows.{AreBelow}
@@ -99,9 +96,3 @@ counts-few count n f counts long each few small k d within = omega (arith, get_o
 pub below-more : {A : Type 0} (f : ℕ → A) (i : ℕ) (a : A) (old new : List A) → old ≡ map f (below i) → a ≡ f i → new ≡ old ++ a ∷ [] → new ≡ map f (below (i + 1))
 below-more f i a old new before is grown =
     grown ∙ (λ j. before j ++ is j ∷ []) ∙ sym (map_push f (below i) i) ∙ (let e : suc i ≡ i + 1 = omega arith in ap (λ m. map f (below m)) e)
-
--- what is left of a sum in 32 bits
-pub idx-is : (k : DataType) (vs : List Value) (z : ℤ) (n : ℕ) → (k ≡ kind.Boolean) ⊎ ((k ≡ kind.IdxSize) ⊎ (k ≡ kind.String)) → z ≡ int_wrap w64 (total vs) → n ≡ wrap_idx z → val.IdxSize n ≡ sum_value (Some k) vs
-idx-is k vs z n h is low =
-    let fits : FitsSigned w64 z = subst (FitsSigned w64) (sym is) (SFits-int_wrap w64 (total vs)) in
-    idx-sum-is k vs z n h fits is (low ∙ ap wrap_idx (sym (to_z-of_z w64 z fits)))

@@ -1,6 +1,6 @@
 -- Expressions that are reductions.
-use Rattle.std.proofs.Common.{◌≡◌, ℕ, zero, suc, ◌<◌, ◌≤◌, List, [], ◌∷◌, ◌++◌, length, get_or, map, Bool, true, false, not, cond, refl, sym, ap, subst, ◌∙◌, arith}
-use Rattle.std.specs.Prelude.{◌||◌, filter, flat_map, slice_get, if◌then◌else◌, IfSome, IsTrue, Option, None, Some}
+use Rattle.std.proofs.Common.{◌≡◌, ℕ, zero, suc, ◌<◌, ◌≤◌, List, [], ◌∷◌, ◌++◌, length, get_or, map, true, false, not, refl, sym, ap, subst, ◌∙◌, arith}
+use Rattle.std.specs.Prelude.{◌||◌, flat_map, slice_get, if◌then◌else◌, IfSome, IsTrue, Option, None, Some}
 use Rattle.std.specs.Str.{bytes_eq}
 use Rattle.std.specs.List.{All, list_any}
 use Rattle.std.proofs.lemmas.Bool.{le-leb}
@@ -10,7 +10,7 @@ use Rattle.pu_index.specs.declared.arena.Node.{Node}
 use Rattle.ps_eval.proofs.Taking.{aggregate-tree}
 use Rattle.ps_eval.specs.Wholes.{aggregated_of, aggregation_of}
 use Rattle.ps_frame.specs.Aggregates.{aggregate_column, count_column, max_rows, sum_value}
-use Rattle.ps_frame.specs.Causes.{Cell, Column, value, cell_causes, cell_values, column_causes, has_cause, is_empty, whole_column}
+use Rattle.ps_frame.specs.Causes.{Column, value, cell_causes, cell_values, column_causes, has_cause, is_empty, whole_column}
 use Rattle.ps_frame.specs.Eval.{eval, from_whole, operand}
 use Rattle.ps_frame.specs.Frames.{kinds_of}
 use Rattle.ps_frame.specs.Gathered.{rows_at}

@@ -1,19 +1,17 @@
 // Counts and sums of the rows of each key, in one pass over the rows in their order.
-ghost use Rattle.std.specs.Prelude.{◌≡◌, ◌∷◌, [], ◌≤◌, List, IfOk, Some, length, map};
-ghost use Rattle.std.specs.Int.{int_wrap, w64};
+ghost use Rattle.std.specs.Prelude.{◌≡◌, ◌∷◌, [], ◌≤◌, IfOk, Some, length, map};
 ghost use Rattle.std.specs.List.{All};
-ghost use Rattle.ps_frame.specs.Aggregates.{max_rows, number_of, sum_value, total};
-ghost use Rattle.ps_frame.specs.Operators.{wrap_idx};
+ghost use Rattle.ps_frame.specs.Aggregates.{max_rows, sum_value};
 ghost use Rattle.ps_frame.specs.Zip.{below};
-ghost use Rattle.ps_frame.specs.declared.value.Value.{Value as AValue};
 ghost use Rattle.ps_frame.specs.declared.value.Value.TheVariants as val;
 ghost use Rattle.ps_groups.specs.Reductions.{AreCounts, AreSums, count_values, values_of_key};
 ghost use Rattle.ps_keys.specs.KeyRows.{AreBelow};
 ghost use Rattle.ps_keys.specs.Numbering.{places_of};
 
+use ps_compute::aggregates::{number, sum_of_kind};
 use ps_compute::operators::int64_sum;
 use ps_frame::column::Column;
-use ps_frame::value::{DataType, Value};
+use ps_frame::value::Value;
 use ps_keys::key_rows::counts_of;
 use std::alloc::{AllocError, Global};
 
@@ -126,32 +124,4 @@ fn counted(value: &Value) -> usize
         Value::Null => 0,
         Value::Boolean(_) | Value::Int64(_) | Value::IdxSize(_) | Value::String(_) => 1,
     }
-}
-
-// What a value adds to a sum: a truth value 0 or 1.
-fn number(value: &Value) -> i64
-    ensures { result ≡ number_of value.now }
-{
-    match value {
-        Value::Boolean(b) => i64::from(*b),
-        Value::Int64(z) => *z,
-        Value::IdxSize(n) => i64::from(*n),
-        Value::Null | Value::String(_) => 0,
-    }
-}
-
-// The sum of values of a kind, by what is left of it in 64 bits.
-fn sum_of_kind(dtype: DataType, sum: &i64) -> Value
-    ensures { (vs : List AValue) → sum.now ≡ int_wrap w64 (total vs) → result ≡ sum_value (Some dtype) vs }
-{
-    match dtype {
-        DataType::Int64 => Value::Int64(*sum),
-        DataType::Boolean | DataType::IdxSize | DataType::String => Value::IdxSize(low_bits(sum)),
-    }
-}
-
-fn low_bits(number: &i64) -> u32
-    ensures { result ≡ wrap_idx number.now }
-{
-    number.rem_euclid(1 << 32) as u32
 }

@@ -1,4 +1,4 @@
-use Rattle.std.proofs.Common.{◌≡◌, ◌<◌, length, map, arith, rules, subst, sym, ap, ◌∙◌}
+use Rattle.std.proofs.Common.{◌≡◌, ◌<◌, length, arith, rules, subst, sym, ap, ◌∙◌}
 use Rattle.std.specs.List.{All, concat}
 use Rattle.ps_keys.specs.KeyRows.{AreBelow, places_of_each}
 use Rattle.ps_groups.proofs.KeyTables.{all-places-below, all-places-count}
