@@ -173,7 +173,6 @@ fn groups_and_distinct_rows_take_nulls_for_equal(rt: HostRuntime) -> Result<(), 
     Ok(())
 }
 
-// The first four kinds of join may give their rows in any order, so these are sorted.
 #[test]
 fn groups_add_up_each_kind(rt: HostRuntime) -> Result<(), Fail> {
     let table =
@@ -186,6 +185,7 @@ fn groups_add_up_each_kind(rt: HostRuntime) -> Result<(), Fail> {
     Ok(())
 }
 
+// The first four kinds of join may give their rows in any order, so these are sorted.
 #[test]
 fn joins_match_equal_keys(rt: HostRuntime) -> Result<(), Fail> {
     let alloc = rt.alloc();

@@ -1,5 +1,5 @@
 // Where bytes go.
-ghost use Rattle.std.specs.Prelude.{◌≡◌, ◌<◌, ◌≤◌, ◌-◌, ◌⊎◌, ◌↔◌, ℕ, List, Option, length, take, min, IfOk, OnErr, OnOk, IsErr, Contains, [], Err};
+ghost use Rattle.std.specs.Prelude.{◌≡◌, ◌<◌, ◌≤◌, ◌+◌, ◌-◌, ◌^◌, ◌⊎◌, ◌↔◌, ℕ, List, Option, length, take, min, IfOk, OnErr, OnOk, IsErr, Contains, [], Err};
 ghost use Rattle.plan_tool.specs.Outside.{Appends, Rose};
 
 use crate::source::Failed;
@@ -94,6 +94,8 @@ impl Sink for MemSink {
         ensures planned { IsErr result ↔ (Contains self.old.failing self.old.calls ⊎ ((0 < length buf.now) × (self.old.room ≡ length self.old.bytes))) }
         ensures amount { IfOk result (λ n. n ≡ min (length buf.now) (self.old.room - length self.old.bytes)) }
         ensures unfailed { OnOk result (self.new.failed ≡ self.old.failed) }
+        ensures plan { (self.new.room ≡ self.old.room) × (self.new.failing ≡ self.old.failing) }
+        ensures calls { self.old.calls < 2 ^ 64 - 1 → self.new.calls ≡ self.old.calls + 1 }
     {
         let call = self.call_count;
         self.call_count = call.saturating_add(1);
@@ -116,7 +118,10 @@ pub struct StdSink<W: Write> {
 
 impl<W: Write> StdSink<W> {
     /// The writer, with no faults so far.
-    pub fn new(writer: W) -> StdSink<W> {
+    pub fn new(writer: W) -> StdSink<W>
+        ensures writer { result.writer ≡ writer }
+        ensures unfailed { result.fault_count ≡ 0 }
+    {
         StdSink {
             writer,
             fault_count: 0,

@@ -1,5 +1,5 @@
 // Where bytes come from.
-ghost use Rattle.std.specs.Prelude.{◌≡◌, ◌<◌, ◌≤◌, ℕ, List, Option, length, take, drop, min, IfOk, OnErr, OnOk, Ok, IsErr, Contains, ◌↔◌};
+ghost use Rattle.std.specs.Prelude.{◌≡◌, ◌<◌, ◌≤◌, ◌+◌, ◌-◌, ◌^◌, ℕ, List, Option, length, take, drop, min, IfOk, OnErr, OnOk, Ok, IsErr, Contains, ◌↔◌};
 ghost use Rattle.plan_tool.specs.Outside.{IsAtEnd, Rose, TakesFront};
 
 use std::io::Read;
@@ -85,6 +85,8 @@ impl Source for MemSource {
         ensures planned { IsErr result ↔ Contains self.old.failing self.old.calls }
         ensures amount { IfOk result (λ n. n ≡ min self.old.chunk (min (length buf.old) (length self.old.bytes))) }
         ensures unfailed { OnOk result (self.new.failed ≡ self.old.failed) }
+        ensures plan { (self.new.chunk ≡ self.old.chunk) × (self.new.failing ≡ self.old.failing) }
+        ensures calls { self.old.calls < 2 ^ 64 - 1 → self.new.calls ≡ self.old.calls + 1 }
     {
         let call = self.call_count;
         self.call_count = call.saturating_add(1);
@@ -109,7 +111,10 @@ pub struct StdSource<R: Read> {
 
 impl<R: Read> StdSource<R> {
     /// The reader, with no faults so far.
-    pub fn new(reader: R) -> StdSource<R> {
+    pub fn new(reader: R) -> StdSource<R>
+        ensures reader { result.reader ≡ reader }
+        ensures unfailed { result.fault_count ≡ 0 }
+    {
         StdSource {
             reader,
             fault_count: 0,

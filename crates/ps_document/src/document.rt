@@ -127,7 +127,7 @@ fn plan_of(alloc: Global, members: Members) -> Result<Option<Document>, AllocErr
 /// The plan of these expressions and nodes over these tables.
 ///
 /// Fails only for want of memory.
-pub fn plan_over(
+pub(crate) fn plan_over(
     alloc: Global,
     tables: Vec<DataFrame>,
     exprs: Value,

@@ -1,4 +1,4 @@
-// Lists of parts that take their texts over from the JSON.
+// Lists of parts, whose JSON is let go as they are read.
 ghost use Rattle.std.specs.Prelude.{◌≡◌, ◌≢◌, List, IfOk, IfSome, IfNone, map};
 ghost use Rattle.std.specs.List.{AllZip};
 ghost use Rattle.serde_json.specs.Data.{Data};

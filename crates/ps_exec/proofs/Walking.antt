@@ -21,7 +21,6 @@ use Rattle.ps_plan.specs.Plans.{Plan, tree_of}
 use Rattle.ps_plan.specs.Refusals.{IsValid}
 use Rattle.ps_plan.specs.Steps.{entry_inputs, entry_step}
 use Rattle.ps_plan.specs.declared.ir.IR.{IR}
-use Rattle.ps_plan.proofs.ReachedSteps.{contains-first, contains-later}
 use Rattle.ps_survey.proofs.Lists.{at-from, from-at, same-or-not, slice_get-set_other, slice_get-set_same}
 use Rattle.ps_survey.specs.Surveys.{IsSurvey}
 use Rattle.ps_walks.specs.Accepted.{schemas_at}
@@ -33,6 +32,12 @@ use Rattle.ps_exec.proofs.Wanting.{numbers}
 use Rattle.ps_exec.specs.Held.{AreHeld, Held, IsHeld, table_in, tables_in}
 use Rattle.ps_evaluate.specs.Nodes.{FitInputs, NodeFaults, NodeGives}
 use Rattle.ps_exec.specs.Readers.{IsWantedUntil}
+
+contains-first : {A : Type 0} (x : A) (xs : List A) → Contains (x ∷ xs) x
+contains-first x xs = (0, omega arith, refl)
+
+contains-later : {A : Type 0} (x y : A) (xs : List A) → Contains xs y → Contains (x ∷ xs) y
+contains-later x y xs (k, h, e) = (suc k, omega arith, e)
 
 -- one table where two numbers are the same, another where they aren't
 abbrev pick : {m n : ℕ} → (m ≡ n) ⊎ (m ≢ n) → Frame → Frame → Frame

@@ -40,9 +40,5 @@ fn copied(alloc: Global, nodes: &[Node]) -> PolarsResult<Vec<Node>>
     ensures nodes { IfOk result (λ copy. copy.items ≡ nodes.now) }
     ensures memory { OnErr result (result ≡ Err PolarsError.OutOfMemory) }
 {
-    let mut copy = Vec::with_capacity(alloc, nodes.len())?;
-    for node in nodes {
-        copy.push(*node)?;
-    }
-    Ok(copy)
+    Ok(Vec::from_slice(alloc, nodes)?)
 }

@@ -27,24 +27,13 @@ pub(crate) fn last_readers(
     ensures root { IfOk result (λ until. length order.now ≤ get_or until.items root.0 0) }
     ensures memory { OnErr result (result ≡ Err PolarsError.OutOfMemory) }
 {
-    let mut until = zeros(alloc, ir.len())?;
+    let mut until = vec![in alloc; 0usize; ir.len()]?;
     for (place, node) in order.iter().enumerate() {
         let inputs = inputs_of(alloc, ir.get(Node(*node)))?;
         want(&mut until, inputs.as_slice(), place);
     }
     want(&mut until, &[root], order.len());
     Ok(until)
-}
-
-fn zeros(alloc: Global, count: usize) -> PolarsResult<Vec<usize>>
-    ensures size { IfOk result (λ zeros. length zeros.items ≡ count) }
-    ensures memory { OnErr result (result ≡ Err PolarsError.OutOfMemory) }
-{
-    let mut zeros = Vec::with_capacity(alloc, count)?;
-    for _ in 0..count {
-        zeros.push(0)?;
-    }
-    Ok(zeros)
 }
 
 /// Wants these nodes at a place of the order.

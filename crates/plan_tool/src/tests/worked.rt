@@ -208,7 +208,7 @@ fn rows_are_numbered_and_cut(rt: HostRuntime) -> Result<(), Fail> {
 }
 
 #[test]
-fn a_slice_goes_over_morsels(rt: HostRuntime) -> Result<(), Fail> {
+fn a_slice_from_the_middle(rt: HostRuntime) -> Result<(), Fail> {
     let table = r#"[["a","int",[0,1,2,3,4,5]]]"#;
     let document = document(rt.alloc(), &[table], "", &[r#"["slice",0,2,3]"#])?;
     let given = Given {
