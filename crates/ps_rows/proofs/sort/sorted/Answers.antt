@@ -21,8 +21,8 @@ gathered-requires-clause-few c =
     let count = ap length (c.as_slice-in-Ok-sorted_rows.ensures.value ∙ c.in-Ok-sorted_rows.ensures.rows) ∙ order-length c.as_slice-3.result.now c.as_slice-keys.result.now c.height.result in
     subst (λ n. n ≤ max_rows) (sym count) c.height.ensures.counted
 
-pub returns-in-Ok-sorted_rows-in_ok-gathered-clause-rows : goal.returns-in-Ok-sorted_rows-in_ok-gathered-clause-rows
-returns-in-Ok-sorted_rows-in_ok-gathered-clause-rows c =
+pub returns-in-Ok-sorted_rows-clause-rows : goal.returns-in-Ok-sorted_rows-clause-rows
+returns-in-Ok-sorted_rows-clause-rows c =
     let rows = c.args.keyed.now.table.rows in
     let item : ℕ → List Value = λ i. get_or rows i [] in
     let keys = c.as_slice-keys.ensures.value in
@@ -30,4 +30,4 @@ returns-in-Ok-sorted_rows-in_ok-gathered-clause-rows c =
     let last = c.as_slice-2.ensures in
     let count = c.height.ensures.rows in
     let directions = c.as_slice-3.ensures.value ∙ c.in-Ok.ensures.directions ∙ (λ j. directions_of (length (keys j)) (down j) (last j)) in
-    c.in_ok-gathered.ensures.rows ∙ ap (λ places. rows_at places rows) c.as_slice-in-Ok-sorted_rows.ensures.value ∙ c.in-Ok-sorted_rows.ensures.lists rows ∙ (λ j. in_order_of_keys (directions j) (beside_keys (keys j) item (count j)))
+    c.in_ok-gathered-in-Ok-sorted_rows.ensures.rows ∙ ap (λ places. rows_at places rows) c.as_slice-in-Ok-sorted_rows.ensures.value ∙ c.in-Ok-sorted_rows.ensures.lists rows ∙ (λ j. in_order_of_keys (directions j) (beside_keys (keys j) item (count j)))
