@@ -1,16 +1,16 @@
--- What is asked of the plan of the tests.
-use Rattle.std.proofs.Common.{◌≡◌, List, [], ◌∷◌, refl, sym, subst, ap, ◌∙◌}
+-- What is asked of the plans of the tests.
+use Rattle.std.proofs.Common.{◌≡◌, List, [], ◌∷◌, map, refl, sym, subst, ap, ◌∙◌}
 use Rattle.std.specs.Prelude.{Contains, None, Some, slice_get}
 use Rattle.std.specs.List.{AllByRecursion}
 use Rattle.pu_index.specs.declared.arena.Node.{Node}
 use Rattle.ps_frame.specs.Functions.{Functions}
 use Rattle.ps_frame.specs.Tables.{Fields, Frame}
-use Rattle.ps_frame.specs.Trees.{IsComplete, tree_at}
+use Rattle.ps_frame.specs.Trees.{IsComplete, Tree, tree_at}
 use Rattle.ps_frame.specs.declared.expr.AExpr.{AExpr}
 use Rattle.ps_plan.proofs.ReachedSteps.{contains-first}
 use Rattle.ps_plan.specs.Graph.{Reached, here, named_by, onward}
 use Rattle.ps_plan.specs.Maps.{map_step}
-use Rattle.ps_plan.specs.Steps.{Step, entry_inputs, step_exprs}
+use Rattle.ps_plan.specs.Steps.{Step, entry_inputs, entry_step, step_exprs}
 use Rattle.ps_plan.specs.declared.ir.IR.{IR}
 use Rattle.ps_plan.specs.declared.ir.IR.TheVariants as entry
 use Rattle.ps_plan.specs.declared.map.MapKind.{MapKind}
@@ -22,45 +22,65 @@ use Rattle.ps_walks.specs.Fit.{plan_schemas}
 use Rattle.ps_evaluate.specs.Nodes.{FitInputs}
 use Rattle.ps_evaluate.specs.Owned.{MapParts, step_of}
 use Rattle.ps_evaluate.specs.Ready.{IsReadyFor, frame_schemas}
-use Rattle.ps_evaluate.specs.Tested.{tested_nodes, tested_select}
+use Rattle.ps_evaluate.specs.Tested.{tested_entry, tested_nodes}
 use Rattle.ps_evaluate.proofs.NodeSteps.{at-entry, node-ready}
 
-module _ (F : Functions) (v : ValidNodes) (exprs : List AExpr) (df : Frame) (root : v.root ≡ record { 0 = 2 }) (nodes : v.nodes ≡ tested_nodes df) (valid : IsValidWith F v exprs) where
-  select-there : slice_get v.nodes 1 ≡ Some (entry.Select (record { 0 = 0 }) tested_select)
-  select-there = ap (λ ns. slice_get ns 1) nodes
+-- the second node is over the first
+over-first : (k : MapKind) → entry_inputs (tested_entry k) ≡ record { 0 = 0 } ∷ []
+over-first (kind.Function n) = refl
+over-first (kind.Select es) = refl
+over-first (kind.Sort by cut options) = refl
+over-first (kind.GroupBy keys aggs maintain cut) = refl
+over-first (kind.Distinct options) = refl
 
+-- and does what the map does
+same-step : (f : Node → Tree) (k : MapKind) → entry_step f (tested_entry k) ≡ map_step f k
+same-step f (kind.Function n) = refl
+same-step f (kind.Select es) = refl
+same-step f (kind.Sort by cut options) = refl
+same-step f (kind.GroupBy keys aggs maintain cut) = refl
+same-step f (kind.Distinct options) = refl
+
+module _ (F : Functions) (v : ValidNodes) (exprs : List AExpr) (df : Frame) (k : MapKind) (root : v.root ≡ record { 0 = 2 }) (nodes : v.nodes ≡ tested_nodes df k) (valid : IsValidWith F v exprs) where
   scan-there : slice_get v.nodes 0 ≡ Some (entry.DataFrameScan df None)
   scan-there = ap (λ ns. slice_get ns 0) nodes
+
+  entry-there : slice_get v.nodes 1 ≡ Some (tested_entry k)
+  entry-there = ap (λ ns. slice_get ns 1) nodes
 
   below-root : Contains (named_by entry_inputs (slice_get v.nodes v.root.0)) 1
   below-root =
       subst (λ (ns : List IR). Contains (named_by entry_inputs (slice_get ns v.root.0)) 1) (sym nodes)
-      (subst (λ (r : Node). Contains (named_by entry_inputs (slice_get (tested_nodes df) r.0)) 1) (sym root) (contains-first 1 []))
+      (subst (λ (r : Node). Contains (named_by entry_inputs (slice_get (tested_nodes df k) r.0)) 1) (sym root) (contains-first 1 []))
 
-  below-select : Contains (named_by entry_inputs (slice_get v.nodes 1)) 0
-  below-select = subst (λ (ns : List IR). Contains (named_by entry_inputs (slice_get ns 1)) 0) (sym nodes) (contains-first 0 [])
+  below-entry : Contains (named_by entry_inputs (slice_get v.nodes 1)) 0
+  below-entry =
+      subst (λ ns. Contains ns 0) (sym (ap (named_by entry_inputs) entry-there ∙ ap (map (λ (n : Node). n.0)) (over-first k))) (contains-first 0 [])
 
-  pub select-reached : Reached (plan_with v exprs) 1
-  select-reached = onward below-root here
+  pub entry-reached : Reached (plan_with v exprs) 1
+  entry-reached = onward below-root here
 
   pub scan-reached : Reached (plan_with v exprs) 0
-  scan-reached = onward below-root (onward below-select here)
+  scan-reached = onward below-root (onward below-entry here)
 
   pub scan-inputs : FitInputs F (plan_with v exprs) 0 []
   scan-inputs = at-entry (λ e. frame_schemas [] ≡ schemas_at (plan_schemas F (plan_with v exprs)) (entry_inputs e)) (slice_get v.nodes 0) (entry.DataFrameScan df None) scan-there refl
 
   -- over the table of the scan
   module _ (t : Frame) (has : t.schema ≡ plan_schemas F (plan_with v exprs) 0) where
-    pub select-inputs : FitInputs F (plan_with v exprs) 1 (t ∷ [])
-    select-inputs = at-entry (λ e. frame_schemas (t ∷ []) ≡ schemas_at (plan_schemas F (plan_with v exprs)) (entry_inputs e)) (slice_get v.nodes 1) (entry.Select (record { 0 = 0 }) tested_select) select-there (ap (λ s. s ∷ []) has)
+    pub entry-fits : FitInputs F (plan_with v exprs) 1 (t ∷ [])
+    entry-fits =
+        at-entry (λ e. frame_schemas (t ∷ []) ≡ schemas_at (plan_schemas F (plan_with v exprs)) (entry_inputs e)) (slice_get v.nodes 1) (tested_entry k) entry-there
+        (ap (λ s. s ∷ []) has ∙ ap (schemas_at (plan_schemas F (plan_with v exprs))) (sym (over-first k)))
 
-    pub map-ready : (m : MapParts) (k : MapKind) → k ≡ kind.Select tested_select → step_of m ≡ map_step (tree_at exprs) k → (s : Fields) × IsReadyFor F (step_of m) (t ∷ []) s
-    map-ready m k is same = (
+    pub map-ready : (m : MapParts) → step_of m ≡ map_step (tree_at exprs) k → (s : Fields) × IsReadyFor F (step_of m) (t ∷ []) s
+    map-ready m same = (
       plan_schemas F (plan_with v exprs) 1,
-      subst (λ (step : Step). IsReadyFor F step (t ∷ []) (plan_schemas F (plan_with v exprs) 1)) (sym (same ∙ ap (map_step (tree_at exprs)) is))
-          (node-ready F (plan_with v exprs) 1 (entry.Select (record { 0 = 0 }) tested_select) (t ∷ []) select-there valid.valid valid.typed select-reached select-inputs),
+      subst (λ (step : Step). IsReadyFor F step (t ∷ []) (plan_schemas F (plan_with v exprs) 1)) (same-step (tree_at exprs) k ∙ sym same)
+          (node-ready F (plan_with v exprs) 1 (tested_entry k) (t ∷ []) entry-there valid.valid valid.typed entry-reached entry-fits),
     )
 
-  pub map-complete : (k : MapKind) → k ≡ kind.Select tested_select → AllByRecursion IsComplete (step_exprs (map_step (tree_at exprs) k))
-  map-complete k is =
-      subst (λ (m : MapKind). AllByRecursion IsComplete (step_exprs (map_step (tree_at exprs) m))) (sym is) (step-fits F (plan_with v exprs) valid.valid valid.typed 1 select-reached (entry.Select (record { 0 = 0 }) tested_select) select-there).complete
+  pub map-complete : AllByRecursion IsComplete (step_exprs (map_step (tree_at exprs) k))
+  map-complete =
+      subst (λ (step : Step). AllByRecursion IsComplete (step_exprs step)) (same-step (tree_at exprs) k)
+      (step-fits F (plan_with v exprs) valid.valid valid.typed 1 entry-reached (tested_entry k) entry-there).complete
