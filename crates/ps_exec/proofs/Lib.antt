@@ -1,3 +1,4 @@
 mod Running
+mod Unbroken
 mod Walking
 mod Wanting

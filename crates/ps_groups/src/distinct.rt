@@ -22,6 +22,7 @@ use ps_frame::refusal::{PolarsError, PolarsResult};
 use ps_frame::schema::Schema;
 use ps_keys::numbering::{Numbering, number_rows};
 use ps_plan::ir::{DistinctOptions, UniqueKeepStrategy};
+use ps_rows::gathered::gathered;
 use ps_tables::cut::cut;
 use pu_order::PlSmallStr;
 use std::alloc::{AllocError, Global};
@@ -38,23 +39,6 @@ pub fn distinct(alloc: Global, options: &DistinctOptions, df: &DataFrame) -> Pol
     let rows = rows_to_keep(alloc, options, df)?;
     let kept = gathered(alloc, df, rows.as_slice())?;
     cut(alloc, kept, options.slice)
-}
-
-// The rows at these places.
-pub(crate) fn gathered(
-    alloc: Global,
-    df: &DataFrame,
-    rows: &[usize],
-) -> Result<DataFrame, AllocError>
-    requires there { All (λ i. i < length df.now.rows) rows.now }
-    requires few { length rows.now ≤ max_rows }
-    ensures schema { IfOk result (λ f. f.schema ≡ df.now.schema) }
-    ensures rows { IfOk result (λ f. f.rows ≡ rows_at rows.now df.now.rows) }
-{
-    match df.gather(alloc, rows) {
-        Ok(df) => Ok(df),
-        Err(_) => Err(AllocError),
-    }
 }
 
 // The places of the rows that are kept.

@@ -6,11 +6,11 @@ ghost use Rattle.ps_frame.specs.Lawful.{FitsFrame};
 ghost use Rattle.ps_frame.specs.Typed.{all_fit};
 ghost use Rattle.ps_groups.specs.Tables.{IsNumberingOf, group_tables, table_at};
 
-use crate::distinct::gathered;
 use ps_frame::column::Column;
 use ps_frame::frame::DataFrame;
 use ps_keys::key_rows::{RowsByKey, rows_by_key};
 use ps_keys::numbering::Numbering;
+use ps_rows::gathered::gathered;
 use std::alloc::{AllocError, Global};
 use std::marker::Model;
 

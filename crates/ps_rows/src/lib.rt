@@ -2,6 +2,7 @@
 #![tactic(auto)]
 
 pub mod filter;
+pub mod gathered;
 pub mod hstack;
 pub mod keyed;
 pub mod select;

@@ -1,10 +1,7 @@
 // The rows of a table in the order of expressions.
-ghost use Rattle.std.specs.Prelude.{◌≡◌, ◌<◌, ◌≤◌, ◌∷◌, [], Err, IfErr, IfOk, OnErr, get_or, length};
-ghost use Rattle.std.specs.List.{All};
+ghost use Rattle.std.specs.Prelude.{◌≡◌, ◌∷◌, [], Err, IfErr, IfOk, OnErr, get_or, length};
 ghost use Rattle.ps_compute.specs.Rows.{beside_keys};
-ghost use Rattle.ps_frame.specs.Aggregates.{max_rows};
 ghost use Rattle.ps_frame.specs.Functions.{Functions};
-ghost use Rattle.ps_frame.specs.Gathered.{rows_at};
 ghost use Rattle.ps_frame.specs.Sorting.{directions_of, in_order_of_keys};
 ghost use Rattle.ps_frame.specs.Tables.{Frame, whole};
 ghost use Rattle.ps_frame.specs.Trees.{tree_at};
@@ -13,6 +10,7 @@ ghost use Rattle.ps_plan.specs.Nodes.{GivesFrame, MayFault};
 ghost use Rattle.ps_plan.specs.Steps.{key_trees, sort_step};
 ghost use Rattle.ps_zip.specs.Zips.{AreTypedOver};
 
+use crate::gathered::gathered;
 use crate::keyed::{KeyedTable, keyed_table};
 use ps_compute::order::{directions_for, sorted_rows};
 use ps_frame::expr::AExpr;
@@ -83,21 +81,7 @@ fn sorted(
         return Err(PolarsError::OutOfMemory);
     };
     match sorted_rows(alloc, keyed.table.height(), keys, directions.as_slice()) {
-        Ok(rows) => gathered(alloc, &keyed.table, rows.as_slice()),
-        Err(_) => Err(PolarsError::OutOfMemory),
-    }
-}
-
-// The rows of a table at these places.
-fn gathered(alloc: Global, table: &DataFrame, rows: &[usize]) -> PolarsResult<DataFrame>
-    requires places { All (λ i. i < length table.now.rows) rows.now }
-    requires small { length rows.now ≤ max_rows }
-    ensures schema { IfOk result (λ f. f.schema ≡ table.now.schema) }
-    ensures rows { IfOk result (λ f. f.rows ≡ rows_at rows.now table.now.rows) }
-    ensures memory { OnErr result (result ≡ Err PolarsError.OutOfMemory) }
-{
-    match table.gather(alloc, rows) {
-        Ok(table) => Ok(table),
+        Ok(rows) => Ok(gathered(alloc, &keyed.table, rows.as_slice())?),
         Err(_) => Err(PolarsError::OutOfMemory),
     }
 }
