@@ -22,7 +22,7 @@ pub struct EnumerateIdx<I, N> {
 }
 
 impl<I, N: Zero> EnumerateIdx<I, N> {
-    /// Numbers the items of an iterator. The type of the numbers has to have how many there are.
+    /// Numbers the items of an iterator. How many there are has to fit the type of the numbers.
     pub fn new(iter: I) -> EnumerateIdx<I, N>
         ensures source { source result ≡ iter }
         ensures number { number result ≡ N.zero }
@@ -91,7 +91,7 @@ impl<I: ExactSizeIterator, N: Copy + Zero + One + Integral> ExactSizeIterator
     }
 }
 
-// The number that comes so many behind another.
+// A number plus another, where the type has the sum.
 fn further<N: Zero + Integral>(number: N, by: N) -> N
     requires { N.fits (N.value number +ℤ N.value by) }
     ensures { N.value result ≡ N.value number +ℤ N.value by }
@@ -177,7 +177,7 @@ pub fn try_collect<
     }
 }
 
-/// Whether all items of an iterator are equal. Stops at the first that differs from the first one.
+/// Whether all items of an iterator are equal.
 pub fn all_equal<I: Iterator>(mut iter: I) -> bool
 where
     I::Item: PartialEq + Drop,

@@ -54,7 +54,7 @@ fn wrapped(start: usize, i: usize, capacity: usize) -> usize
 impl<T> FixedRingBuffer<T> {
     /// A ring without items that holds at most `capacity` of them.
     ///
-    /// Fails only for want of memory. Nothing else of a ring takes memory.
+    /// Fails only for want of memory, as for 2^63 places or bytes. Nothing else of a ring takes memory.
     pub fn new(alloc: Global, capacity: usize) -> Result<FixedRingBuffer<T>>
         ensures empty { IfOk result (λ r. r ≡ ring [] capacity) }
         ensures memory { OnErr result (result ≡ Err refusal.OutOfMemory) }

@@ -150,6 +150,8 @@ fn writes_lists(rt: HostRuntime) -> Result<(), Fail> {
     assert_eq!(rt; text.as_str(), "[]");
     let text = format_tuple!(alloc, [1].iter())?;
     assert_eq!(rt; text.as_str(), "(1)");
+    let text = format_list!(alloc, [4, 5].to_vec(alloc)?)?;
+    assert_eq!(rt; text.as_str(), "[4, 5]");
     let text = format_list_container!(alloc, [1, 2].iter(), '<', '>')?;
     assert_eq!(rt; text.as_str(), "<1, 2>");
     Ok(())

@@ -22,8 +22,8 @@ use std::{array, fmt, slice};
 /// Numbers of rows.
 pub type IdxVec = UnitVec<IdxSize>;
 
-/// A vector whose first item takes no memory. What appends to it or copies it asks that there are
-/// fewer than 2^31 items.
+/// A vector whose first item takes no memory. What makes room, copies it, or makes one of several
+/// items asks that these are fewer than 2^31.
 ///
 /// What makes one asks that an item takes fewer than 2^63 bytes, which a concrete type shows by
 /// itself. The vector keeps that, so that nothing else asks it.

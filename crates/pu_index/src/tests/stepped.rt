@@ -1,8 +1,21 @@
 // Iterators, and lists by place.
+ghost use Rattle.std.specs.Prelude.{◌<◌, ◌^◌, length};
+
 use crate::*;
 use std::alloc::Global;
 use std::cmp::Ordering;
 use std::test::Fail;
+
+// The number that the last byte gets.
+fn last_number(bytes: &[u8]) -> Option<u32>
+    requires { length bytes.now < 2 ^ 32 }
+{
+    let mut last = None;
+    for (i, _byte) in enumerate_idx(bytes.iter()) {
+        last = Some(i);
+    }
+    last
+}
 
 #[test]
 fn numbers_and_collects(rt: HostRuntime) -> Result<(), Fail> {
@@ -12,6 +25,7 @@ fn numbers_and_collects(rt: HostRuntime) -> Result<(), Fail> {
         last = Some((i, *x));
     }
     assert_eq!(rt; last, Some((1, 6)));
+    assert_eq!(rt; last_number(&[5, 6, 7]), Some(2));
     let all = collect_vec(alloc, [1u8, 2].iter().copied())?;
     assert_eq!(rt; all.as_slice(), [1, 2].as_slice());
     Ok(())
