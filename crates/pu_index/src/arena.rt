@@ -1,5 +1,5 @@
 // Arenas: entries that are named by their numbers.
-ghost use Rattle.std.specs.Prelude.{◌≡◌, ◌≢◌, ◌↔◌, ◌+◌, ◌<◌, ◌%◌, ◌^◌, ◌++◌, ◌∷◌, [], length, slice_get, slice_set, swap, IfOk, IsTrue, OnErr, Ok, Err, MatchOption, MatchResult};
+ghost use Rattle.std.specs.Prelude.{◌≡◌, ◌≢◌, ◌↔◌, ◌+◌, ◌<◌, ◌≤◌, ◌%◌, ◌^◌, ◌++◌, ◌∷◌, [], length, slice_get, slice_set, swap, IfOk, IsOk, IsTrue, OnErr, Ok, Err, MatchOption, MatchResult};
 ghost use Rattle.std.specs.Borrow.{sem, Array, LendsBoth};
 ghost use Rattle.pu_order.specs.declared.error.PolarsUtilsError.TheVariants as refusal;
 
@@ -24,6 +24,7 @@ impl Default for Node {
 
 /// A list of entries, each named by its place. A number that a call takes has to be below the number
 /// of entries. The version is the number of times that the arena was cleared, counted around at 2^32.
+/// The room of an arena stays but where it grows.
 #[derive(Drop)]
 pub struct Arena<T> {
     version: u32,
@@ -31,11 +32,12 @@ pub struct Arena<T> {
 }
 
 impl<T> Model for Arena<T> {
+    ghost use Rattle.std.specs.Prelude.{vec_capacity};
     ghost use Rattle.pu_index.specs.Entries.{Entries};
 
     ghost Value = { Entries T };
 
-    ghost view = { λ a. record { items = a.items.items; version = a.version } };
+    ghost view = { λ a. record { items = a.items.items; version = a.version; capacity = vec_capacity a.items } };
 }
 
 impl<T> Arena<T> {
@@ -43,7 +45,8 @@ impl<T> Arena<T> {
 
     /// An arena without entries, which takes no memory.
     pub fn new(alloc: Global) -> Arena<T>
-        ensures { result ≡ record { items = []; version = 0 } }
+        ensures empty { result.items ≡ [] }
+        ensures version { result.version ≡ 0 }
     {
         Arena {
             version: 0,
@@ -51,11 +54,13 @@ impl<T> Arena<T> {
         }
     }
 
-    /// An arena without entries, made for `cap` of them. How much room it takes is seen by no contract.
+    /// An arena without entries that has room for `cap` of them.
     ///
     /// Fails only for want of memory.
     pub fn with_capacity(alloc: Global, cap: usize) -> Result<Arena<T>>
-        ensures empty { IfOk result (λ a. a ≡ record { items = []; version = 0 }) }
+        ensures empty { IfOk result (λ a. a.items ≡ []) }
+        ensures version { IfOk result (λ a. a.version ≡ 0) }
+        ensures room { IfOk result (λ a. cap ≤ a.capacity) }
         ensures memory { OnErr result (result ≡ Err refusal.OutOfMemory) }
     {
         let items = Vec::with_capacity(alloc, cap)?;
@@ -139,7 +144,7 @@ impl<T> Arena<T> {
         self.items.as_mut_slice()
     }
 
-    /// One more entry, under the number that is answered.
+    /// One more entry, under the number that is answered. Where there is room, no memory is taken.
     ///
     /// Fails only for want of memory; the arena is then as before.
     pub fn add(&mut self, val: T) -> Result<Node>
@@ -148,7 +153,9 @@ impl<T> Arena<T> {
         ensures number { IfOk result (λ n. n.0 ≡ length self.old.items) }
         ensures added { IfOk result (λ n. self.new.items ≡ self.old.items ++ val ∷ []) }
         ensures version { self.new.version ≡ self.old.version }
-        ensures unchanged { OnErr result (self.new ≡ self.old) }
+        ensures room { length self.old.items < self.old.capacity → IsOk result }
+        ensures capacity { self.old.capacity ≤ self.new.capacity }
+        ensures unchanged { OnErr result (self.new.items ≡ self.old.items) }
         ensures memory { OnErr result (result ≡ Err refusal.OutOfMemory) }
     {
         let n = Node(self.items.len());
@@ -160,6 +167,7 @@ impl<T> Arena<T> {
     pub fn pop(&mut self) -> Option<T>
         ensures last { MatchOption result ((self.old.items ≡ []) × (self.new.items ≡ [])) (λ val. self.old.items ≡ self.new.items ++ val ∷ []) }
         ensures version { self.new.version ≡ self.old.version }
+        ensures capacity { self.new.capacity ≡ self.old.capacity }
     {
         self.items.pop()
     }
@@ -170,6 +178,7 @@ impl<T> Arena<T> {
         requires second { b.0 < length self.old.items }
         ensures swapped { self.new.items ≡ swap self.old.items a.0 b.0 }
         ensures version { self.new.version ≡ self.old.version }
+        ensures capacity { self.new.capacity ≡ self.old.capacity }
     {
         self.items.swap(a.0, b.0);
     }
@@ -180,6 +189,7 @@ impl<T> Arena<T> {
         ensures value { slice_get self.old.items n.0 ≡ Some result }
         ensures written { self.new.items ≡ slice_set self.old.items n.0 val }
         ensures version { self.new.version ≡ self.old.version }
+        ensures capacity { self.new.capacity ≡ self.old.capacity }
     {
         mem::replace(&mut self.items[n.0], val)
     }
@@ -190,6 +200,7 @@ impl<T> Arena<T> {
         T: Drop,
         ensures empty { self.new.items ≡ [] }
         ensures version { self.new.version ≡ (self.old.version + 1) % 2 ^ 32 }
+        ensures capacity { self.new.capacity ≡ self.old.capacity }
     {
         self.items.clear();
         self.version = self.version.wrapping_add(1);
@@ -203,6 +214,7 @@ impl<T: Default> Arena<T> {
         ensures value { slice_get self.old.items n.0 ≡ Some result }
         ensures left { (w : T) × T.is_default w × (self.new.items ≡ slice_set self.old.items n.0 w) }
         ensures version { self.new.version ≡ self.old.version }
+        ensures capacity { self.new.capacity ≡ self.old.capacity }
     {
         self.replace(n, T::default())
     }
@@ -215,6 +227,7 @@ impl<T: Default> Arena<T> {
         requires callable { F.IsAlwaysCallable f }
         ensures written { (x y : T) × (slice_get self.old.items n.0 ≡ Some x) × F.post f x y × (self.new.items ≡ slice_set self.old.items n.0 y) }
         ensures version { self.new.version ≡ self.old.version }
+        ensures capacity { self.new.capacity ≡ self.old.capacity }
     {
         let val = self.take(n);
         self.replace(n, f(val));
@@ -230,6 +243,7 @@ impl<T: Default> Arena<T> {
         requires callable { F.IsAlwaysCallable f }
         ensures written { (x : T) × (slice_get self.old.items n.0 ≡ Some x) × MatchResult result (λ _. (y : T) × F.post f x (Ok y) × (self.new.items ≡ slice_set self.old.items n.0 y)) (λ e. (w : T) × T.is_default w × F.post f x (Err e) × (self.new.items ≡ slice_set self.old.items n.0 w)) }
         ensures version { self.new.version ≡ self.old.version }
+        ensures capacity { self.new.capacity ≡ self.old.capacity }
     {
         let val = self.take(n);
         match f(val) {
@@ -252,7 +266,8 @@ impl<T: Clone> Arena<T> {
         ensures number { IfOk result (λ m. m.0 ≡ length self.old.items) }
         ensures added { IfOk result (λ m. (x : T) × (slice_get self.old.items n.0 ≡ Some x) × (self.new.items ≡ self.old.items ++ x ∷ [])) }
         ensures version { self.new.version ≡ self.old.version }
-        ensures unchanged { OnErr result (self.new ≡ self.old) }
+        ensures capacity { self.old.capacity ≤ self.new.capacity }
+        ensures unchanged { OnErr result (self.new.items ≡ self.old.items) }
         ensures memory { OnErr result (result ≡ Err refusal.OutOfMemory) }
     {
         let val = self.get(n).clone()?;
@@ -264,7 +279,8 @@ impl<T: Clone> Arena<T> {
     /// Fails only for want of memory.
     pub fn try_clone(&self, alloc: Global) -> Result<Arena<T>>
         requires { (x y : T) → T.is_clone x y → y ≡ x }
-        ensures same { IfOk result (λ a. a ≡ self.now) }
+        ensures same { IfOk result (λ a. a.items ≡ self.now.items) }
+        ensures version { IfOk result (λ a. a.version ≡ self.now.version) }
         ensures memory { OnErr result (result ≡ Err refusal.OutOfMemory) }
     {
         let items = cloned(alloc, &self.items)?;
