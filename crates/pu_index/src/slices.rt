@@ -1,5 +1,5 @@
 // Parts of slices, the least and the greatest item, and bytes read as a number.
-ghost use Rattle.std.specs.Prelude.{◌≡◌, ℕ, ◌↔◌, ◌+◌, ◌-◌, ◌*◌, ◌<◌, ◌≤◌, ◌++◌, [], length, take, replicate, slice_get, slice_index_or, slice_range, false, IsTrue, MatchOption, Some};
+ghost use Rattle.std.specs.Prelude.{◌≡◌, ℕ, ◌↔◌, ◌+◌, ◌-◌, ◌*◌, ◌<◌, ◌≤◌, ◌++◌, [], length, take, replicate, slice_get, slice_index_or, slice_range, false, IsTrue, IsSorted, MatchOption, Some};
 ghost use Rattle.std.specs.Int.{w64, from_le_bytes};
 ghost use Rattle.std.specs.List.{IsFirstBest, IsLastBest, AllAdjacentBelow};
 ghost use Rattle.std.specs.Ordering.{is_lt, is_gt};
@@ -121,7 +121,8 @@ pub fn max_value<T: Ord>(s: &[T]) -> Option<&T>
 
 /// Whether no item is greater than the next.
 pub fn is_sorted_ascending<T: Ord>(s: &[T]) -> bool
-    ensures { IsTrue result ↔ ((k : ℕ) (d : T) → k + 1 < length s.now → is_gt (T.cmp (slice_index_or s.now k d) (slice_index_or s.now (k + 1) d)) ≡ false) }
+    ensures exact { IsTrue result ↔ ((k : ℕ) (d : T) → k + 1 < length s.now → is_gt (T.cmp (slice_index_or s.now k d) (slice_index_or s.now (k + 1) d)) ≡ false) }
+    ensures sorted { IsTrue result → IsSorted T.cmp s.now }
 {
     for i in 1..s.len() {
         if s[i - 1].cmp(&s[i]).is_gt() {
