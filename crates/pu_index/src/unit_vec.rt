@@ -328,10 +328,7 @@ impl<T: Copy> UnitVec<T> {
         ensures memory { OnErr result (result ≡ Err refusal.OutOfMemory) }
     {
         self.in_memory.shows();
-        match self.inline {
-            Some(item) => Ok(UnitVec::of_one(alloc, item)),
-            None => UnitVec::from_slice(alloc, self.heap.as_slice()),
-        }
+        UnitVec::from_slice(alloc, self.as_slice())
     }
 }
 
@@ -360,18 +357,7 @@ impl<T: Copy + PartialEq> PartialEq for UnitVec<T> {
     ghost laws = { on_per (λ v. v.items) (lists_per T.laws) };
 
     fn eq(&self, other: &Self) -> bool {
-        match (&self.inline, &other.inline) {
-            (Some(item), Some(other)) => item == other,
-            (Some(item), None) => match other.heap.as_slice() {
-                [only] => item == only,
-                _ => false,
-            },
-            (None, Some(item)) => match self.heap.as_slice() {
-                [only] => only == item,
-                _ => false,
-            },
-            (None, None) => self.heap.as_slice() == other.heap.as_slice(),
-        }
+        self.as_slice() == other.as_slice()
     }
 }
 
@@ -384,13 +370,8 @@ impl<T: Copy + Eq> Eq for UnitVec<T> {
 
 impl<T: Copy + fmt::Debug> fmt::Debug for UnitVec<T> {
     fn fmt<W: fmt::Write>(&self, f: &mut fmt::Formatter<W>) -> fmt::Result {
-        match &self.inline {
-            Some(item) => write!(f, "UnitVec: [{item:?}]"),
-            None => {
-                let heap = self.heap.as_slice();
-                write!(f, "UnitVec: {heap:?}")
-            }
-        }
+        let items = self.as_slice();
+        write!(f, "UnitVec: {items:?}")
     }
 }
 
