@@ -65,8 +65,7 @@ pub fn convert_owned<T: Drop, O: Drop, F: FnMut(T) -> O>(
     ensures memory { OnErr result (result ≡ Err refusal.OutOfMemory) }
 {
     let mut out = Vec::with_capacity(alloc, v.len())?;
-    let mut rest = VecDeque::from_vec(v);
-    while let Some(item) = rest.pop_front() {
+    for item in v {
         let answer = f(item);
         out.push(answer)?;
     }
