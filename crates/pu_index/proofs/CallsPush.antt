@@ -1,5 +1,5 @@
 -- One more call.
-use Rattle.std.proofs.Common.{◌≡◌, List, [], ◌∷◌, ◌++◌, map, Option, Some, None, refl, ap, subst}
+use Rattle.std.proofs.Common.{◌≡◌, List, [], ◌∷◌, ◌++◌, Option, Some, None, refl, ap, subst}
 use Rattle.pu_index.specs.Calls.{Calls, kept}
 
 module _ {F A R : Type 0} (step : F → A → R → F → Type 0) where
@@ -13,7 +13,3 @@ pub kept-push : {A : Type 0} (rs : List (Option A)) (r : Option A) → kept (rs 
 kept-push [] r = refl
 kept-push (None ∷ rs) r = kept-push rs r
 kept-push (Some x ∷ rs) r = ap (λ xs. x ∷ xs) (kept-push rs r)
-
-pub map-append : {A B : Type 0} (f : A → B) (xs ys : List A) → map f (xs ++ ys) ≡ map f xs ++ map f ys
-map-append f [] ys = refl
-map-append f (x ∷ xs) ys = ap (λ zs. f x ∷ zs) (map-append f xs ys)

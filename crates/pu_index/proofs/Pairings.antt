@@ -2,7 +2,7 @@
 use Rattle.std.proofs.Common.{◌≡◌, List, [], ◌∷◌, ◌++◌, map, Option, Some, refl, sym, ap, subst, ◌∙◌}
 use Rattle.std.specs.List.{FoldsTo}
 use Rattle.std.specs.Iterator.{Yields}
-use Rattle.pu_index.proofs.CallsPush.{map-append}
+use Rattle.std.proofs.lemmas.List.{map-append}
 
 pub Yields-push : {S A : Type 0} (steps : S → Option A → S → Type 0) (s : S) (xs : List A) (t : S) (x : A) (u : S) → Yields steps s xs t → steps t (Some x) u → Yields steps s (xs ++ x ∷ []) u
 Yields-push steps s [] t x u y h = (u, subst (λ r. steps r (Some x) u) (sym y) h, refl)

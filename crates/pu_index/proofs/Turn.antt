@@ -1,7 +1,8 @@
 -- One turn over a queue whose front is taken off and whose kept items go to its back.
 use Rattle.std.proofs.Common.{◌≡◌, ℕ, ◌+◌, ◌<◌, List, [], ◌∷◌, ◌++◌, map, length, Option, refl, sym, ap, ◌∙◌, arith, append_assoc}
 use Rattle.pu_index.specs.Calls.{kept}
-use Rattle.pu_index.proofs.CallsPush.{kept-push, map-append}
+use Rattle.std.proofs.lemmas.List.{append-nil, map-append}
+use Rattle.pu_index.proofs.CallsPush.{kept-push}
 
 -- after some turns of n, what the queue holds of the whole, and of the answers
 pub record Side {P A : Type 0} (part : P → A) (done : List P) (answers : List (Option P)) (whole items : List A) (n turn : ℕ) : Type 0 where
@@ -9,10 +10,6 @@ pub record Side {P A : Type 0} (part : P → A) (done : List P) (answers : List 
   pub from : whole ≡ map part done ++ rest
   pub holds : items ≡ rest ++ map part (kept answers)
   pub left : length rest + turn ≡ n
-
-pub append-none : {A : Type 0} (xs : List A) → xs ++ [] ≡ xs
-append-none [] = refl
-append-none (x ∷ xs) = ap (λ ys. x ∷ ys) (append-none xs)
 
 module _ {P A : Type 0} (part : P → A) where
   push-part : (done : List P) (p : P) (a : A) (rest : List A) → part p ≡ a → map part done ++ a ∷ rest ≡ map part (done ++ p ∷ []) ++ rest
@@ -44,4 +41,4 @@ module _ {P A : Type 0} (part : P → A) where
   pub ended : (done : List P) (answers : List (Option P)) (whole items : List A) (n turn : ℕ) → n ≡ turn → Side part done answers whole items n turn → (whole ≡ map part done) × (items ≡ map part (kept answers))
   ended done answers whole items n k e s =
       let none : s.rest ≡ [] = no-rest s.rest (omega (arith, s.left)) in
-      (s.from ∙ (ap (λ xs. map part done ++ xs) none ∙ append-none (map part done)), s.holds ∙ ap (λ xs. xs ++ map part (kept answers)) none)
+      (s.from ∙ (ap (λ xs. map part done ++ xs) none ∙ append-nil (map part done)), s.holds ∙ ap (λ xs. xs ++ map part (kept answers)) none)

@@ -1,7 +1,8 @@
 -- A turn takes the front of both queues, and puts what is kept at their backs.
 use Rattle.std.proofs.Common.{◌<◌, ◌∷◌, [], ◌++◌, length, refl, sym, ◌∙◌, arith, of_calls, rules}
+use Rattle.std.proofs.lemmas.List.{append-nil}
 use Rattle.pu_index.proofs.CallsPush.{Calls-push}
-use Rattle.pu_index.proofs.Turn.{turn, append-none}
+use Rattle.pu_index.proofs.Turn.{turn}
 use Rattle.pu_index.proofs.vecs.inplace_zip_filtermap.Goals as goal
 
 pub loop-turn-init : goal.loop-turn-init
@@ -11,8 +12,8 @@ loop-turn-init g c = (
     [],
     [],
     refl,
-    record { rest = c.args.x.now.items; from = refl; holds = c.take_all-firsts.ensures.items ∙ sym (append-none c.args.x.now.items); left = omega arith },
-    record { rest = c.args.y.now.items; from = refl; holds = c.take_all-seconds.ensures.items ∙ sym (append-none c.args.y.now.items); left = omega (arith, c.args.x.now.ok.0, c.args.y.now.ok.0) },
+    record { rest = c.args.x.now.items; from = refl; holds = c.take_all-firsts.ensures.items ∙ sym (append-nil c.args.x.now.items); left = omega arith },
+    record { rest = c.args.y.now.items; from = refl; holds = c.take_all-seconds.ensures.items ∙ sym (append-nil c.args.y.now.items); left = omega (arith, c.args.x.now.ok.0, c.args.y.now.ok.0) },
   ),
 )
 
