@@ -1,6 +1,6 @@
 -- Numbers that a type has, from 0 up.
-use Rattle.std.proofs.Common.{◌≡◌, ℕ, ◌+◌, ◌<◌, ◌≤◌, ◌∙◌, ap, subst, sym, arith}
-use Rattle.std.specs.Prelude.{ℤ, pos, ◌+ℤ◌, ◌≤ℤ◌}
+use Rattle.std.proofs.Common.{◌≡◌, ℕ, ◌+◌, ◌<◌, ◌≤◌, Option, Some, None, refl, arith}
+use Rattle.std.specs.Prelude.{ℤ, pos, ◌+ℤ◌, ◌≤ℤ◌, IsSome}
 use Rattle.std.proofs.lemmas.Int.{ints}
 use Rattle.num_traits.specs.Laws.{Checks}
 
@@ -20,3 +20,8 @@ module _ (fits : ℤ → Type 0) (between : (x y z : ℤ) → fits x → fits z 
   -- the same number, with less left
   pub has-fewer : (x : ℤ) (n k : ℕ) → (pos 0 ≤ℤ x) × fits (x +ℤ pos n) → k < n → (pos 0 ≤ℤ x) × fits (x +ℤ pos k)
   has-fewer x n k has less = (has.0, between (pos 0) (x +ℤ pos k) (x +ℤ pos n) zero_fits has.1 (omega (arith, ints, has.0)) (omega (arith, ints)))
+
+-- what is checked to fit is there
+pub is-some : {T : Type 0} (value : T → ℤ) (fits : ℤ → Type 0) (n : ℤ) (o : Option T) → Checks value fits n o → fits n → IsSome o
+is-some value fits n None c f = absurd (c f)
+is-some value fits n (Some y) c f = refl

@@ -47,14 +47,10 @@ impl<I: Iterator, N: Copy + Zero + One + Integral> Iterator for EnumerateIdx<I, 
     ghost remaining = { λ s. I.remaining (source s) };
 
     fn next(&mut self) -> Option<(N, I::Item)> {
-        match self.iter.next() {
-            Some(item) => {
-                let number = self.count;
-                self.count = further(number, N::one());
-                Some((number, item))
-            }
-            None => None,
-        }
+        let item = self.iter.next()?;
+        let number = self.count;
+        self.count = further(number, N::one());
+        Some((number, item))
     }
 
     fn size_hint(&self) -> (usize, Option<usize>) {
@@ -74,13 +70,9 @@ impl<
     ghost next_back_gives = { counted_steps_back N.value I.next_back_gives (λ i. size (I.remaining i)) };
 
     fn next_back(&mut self) -> Option<(N, I::Item)> {
-        match self.iter.next_back() {
-            Some(item) => match N::from_usize(self.iter.len()) {
-                Some(before) => Some((further(self.count, before), item)),
-                None => unreachable!(),
-            },
-            None => None,
-        }
+        let item = self.iter.next_back()?;
+        let before = N::from_usize(self.iter.len()).unwrap();
+        Some((further(self.count, before), item))
     }
 }
 
@@ -184,7 +176,7 @@ where
     requires can { I.can_next iter }
     requires ends { IsFinite (I.remaining iter) }
     ensures all { OnTrue result ((items : List I.Item) × Drains I.next_gives iter items × AllAlike I.Item.eq items) }
-    ensures unlike { OnFalse result ((first item : I.Item) × (between : List I.Item) × (last : I) × YieldsThen I.next_gives iter (first ∷ between) (Some item) last × (I.Item.eq first item ≡ false)) }
+    ensures unlike { OnFalse result ((first item : I.Item) × (between : List I.Item) × (last : I) × YieldsThen I.next_gives iter (first ∷ between) (Some item) last × AllAlike I.Item.eq (first ∷ between) × (I.Item.eq first item ≡ false)) }
 {
     let Some(first) = iter.next() else {
         return true;

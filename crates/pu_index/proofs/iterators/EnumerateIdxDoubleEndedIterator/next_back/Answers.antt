@@ -1,29 +1,29 @@
 use Rattle.std.proofs.Common.{◌≡◌, ◌∙◌, ap, sym, subst, arith}
 use Rattle.std.specs.Prelude.{pos}
 use Rattle.std.specs.Iterator.{size}
-use Rattle.pu_index.proofs.Counting.{has-number, has-count, has-fewer}
+use Rattle.pu_index.proofs.Counting.{has-number, has-count, has-fewer, is-some}
 use Rattle.pu_index.proofs.iterators.EnumerateIdxDoubleEndedIterator.next_back.Goals as goal
 
 pub further-requires : goal.further-requires
 further-requires g c =
-    let progress = c.in-Some.ensures.goes.on c.requires.1 in
+    let progress = c.in_ok-item.ensures.goes.on c.requires.1 in
     let exact = g.met.N.Integral.exact_law in
     has-number g.N.Number.fits (λ x y z. g.N.Number.between_law x y z exact) (g.met.N.Zero.zero_fits_law exact)
-    (g.N.Number.value c.args.self.now.count) (g.N.Number.value c.in-Some-from_usize.before) (size (g.I.Iterator.remaining c.args.self.now.iter)) c.len.result
-    c.requires.2 (omega (arith, progress.2, c.len.ensures.value)) (c.in-Some-from_usize.ensures.value exact).1
+    (g.N.Number.value c.args.self.now.count) (g.N.Number.value c.unwrap-before.result) (size (g.I.Iterator.remaining c.args.self.now.iter)) c.len.result
+    c.requires.2 (omega (arith, progress.2, c.len.ensures.value)) (rw c.unwrap-before.ensures at c.from_usize.ensures.value exact).1
 
-pub unreachable-requires : goal.unreachable-requires
-unreachable-requires g c =
-    let progress = c.in-Some.ensures.goes.on c.requires.1 in
+pub unwrap-before-requires : goal.unwrap-before-requires
+unwrap-before-requires g c =
+    let progress = c.in_ok-item.ensures.goes.on c.requires.1 in
     let exact = g.met.N.Integral.exact_law in
-    c.in-None-from_usize.ensures.value exact
+    is-some g.N.Number.value g.N.Number.fits _ c.from_usize.result (c.from_usize.ensures.value exact)
     (has-count g.N.Number.fits (λ x y z. g.N.Number.between_law x y z exact) (g.met.N.Zero.zero_fits_law exact)
     (g.N.Number.value c.args.self.now.count) (size (g.I.Iterator.remaining c.args.self.now.iter)) c.len.result
     c.requires.2 (omega (arith, progress.2, c.len.ensures.value)))
 
-pub returns-in-Some-from_usize-clause-goes : goal.returns-in-Some-from_usize-clause-goes
-returns-in-Some-from_usize-clause-goes g c =
-    let progress = c.in-Some.ensures.goes.on c.requires.1 in
+pub returns-clause-goes : goal.returns-clause-goes
+returns-clause-goes g c =
+    let progress = c.in_ok-item.ensures.goes.on c.requires.1 in
     let exact = g.met.N.Integral.exact_law in
     let has =
     has-fewer g.N.Number.fits (λ x y z. g.N.Number.between_law x y z exact) (g.met.N.Zero.zero_fits_law exact)
