@@ -1,5 +1,4 @@
-use Rattle.std.proofs.Common.{◌≡◌, ◌∙◌, ap, sym, subst, arith}
-use Rattle.std.specs.Prelude.{pos}
+use Rattle.std.proofs.Common.{arith}
 use Rattle.std.specs.Iterator.{size}
 use Rattle.pu_index.proofs.Counting.{has-number, has-count, has-fewer, is-some}
 use Rattle.pu_index.proofs.iterators.EnumerateIdxDoubleEndedIterator.next_back.Goals as goal

@@ -1,5 +1,5 @@
-use Rattle.std.proofs.Common.{◌≡◌, ◌∙◌, ap, refl, arith}
-use Rattle.std.specs.Prelude.{pos, ◌+ℤ◌}
+use Rattle.std.proofs.Common.{◌∙◌, ap, refl, arith}
+use Rattle.std.specs.Prelude.{◌+ℤ◌}
 use Rattle.std.specs.Iterator.{size}
 use Rattle.pu_index.proofs.Counting.{has-number, has-rest}
 use Rattle.pu_index.proofs.iterators.EnumerateIdxIterator.next.Goals as goal
