@@ -1,5 +1,5 @@
 // Iterators that are collected or numbered.
-ghost use Rattle.std.specs.Prelude.{◌≡◌, ◌+◌, ◌+ℤ◌, ◌^◌, ◌<◌, ◌≤◌, ◌++◌, ◌∷◌, [], List, length, Ok, Err, map, Some, IfOk, OnErr, MatchResult, false};
+ghost use Rattle.std.specs.Prelude.{◌≡◌, ◌+◌, ◌+ℤ◌, ◌<◌, ◌≤◌, ◌∷◌, [], List, length, Ok, Err, map, Some, IfOk, OnErr, MatchResult, false};
 ghost use Rattle.std.specs.Bool.{OnTrue, OnFalse};
 ghost use Rattle.std.specs.Iterator.{Drains, YieldsThen, IsFinite, IsFiniteIterable, size};
 ghost use Rattle.pu_index.specs.Compared.{AllAlike, ComparesByEq, ComparesByPartialCmp};

@@ -1,7 +1,7 @@
 // Parts of slices, the least and the greatest item, and bytes read as a number.
-ghost use Rattle.std.specs.Prelude.{◌≡◌, ℕ, ◌↔◌, ◌+◌, ◌-◌, ◌*◌, ◌<◌, ◌≤◌, ◌++◌, [], length, take, replicate, slice_get, slice_index_or, slice_range, false, IsTrue, IsSorted, MatchOption, Some};
+ghost use Rattle.std.specs.Prelude.{◌≡◌, ℕ, ◌↔◌, ◌+◌, ◌-◌, ◌*◌, ◌<◌, ◌≤◌, [], length, slice_get, slice_index_or, slice_range, false, IsTrue, IsSorted, MatchOption, Some};
 ghost use Rattle.std.specs.Int.{w64, from_le_bytes};
-ghost use Rattle.std.specs.List.{IsFirstBest, IsLastBest, AllAdjacentBelow};
+ghost use Rattle.std.specs.List.{IsFirstBest, IsLastBest};
 ghost use Rattle.std.specs.Ordering.{is_lt, is_gt};
 ghost use Rattle.pu_index.specs.Padded.{padded};
 ghost use Rattle.pu_index.specs.Portion.{before_portion, portion_len};

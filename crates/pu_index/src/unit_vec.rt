@@ -1,5 +1,5 @@
 // Vectors that hold one item without memory.
-ghost use Rattle.std.specs.Prelude.{◌≡◌, ◌≢◌, ◌↔◌, ◌⊎◌, ◌+◌, ◌-◌, ◌<◌, ◌≤◌, ◌^◌, ◌++◌, ◌∷◌, [], List, max, length, take, IfOk, IsOk, IsTrue, OnOk, OnErr, Err, MatchOption, replicate, vec_capacity};
+ghost use Rattle.std.specs.Prelude.{◌≡◌, ◌↔◌, ◌⊎◌, ◌+◌, ◌-◌, ◌<◌, ◌≤◌, ◌^◌, ◌++◌, ◌∷◌, [], List, max, length, take, IfOk, IsOk, IsTrue, OnOk, OnErr, Err, MatchOption, replicate, vec_capacity};
 ghost use Rattle.std.specs.Mem.{FitsInMemory};
 ghost use Rattle.std.specs.Slice.Iter.{iter_rest, iter_mut_rest};
 ghost use Rattle.std.specs.Iterator.{Drains, HoldsAlong, IsFinite, size};

@@ -1,5 +1,5 @@
 // Vectors that are filled, converted and filtered in place.
-ghost use Rattle.std.specs.Prelude.{◌≡◌, ◌+◌, ◌<◌, ◌++◌, ◌∷◌, [], List, Option, map, replicate, length, vec_len, vec_capacity, IfOk, OnOk, OnErr, Err, MatchOption};
+ghost use Rattle.std.specs.Prelude.{◌≡◌, ◌+◌, ◌<◌, ◌++◌, ◌∷◌, [], map, replicate, length, vec_len, vec_capacity, IfOk, OnOk, OnErr, Err};
 ghost use Rattle.std.specs.Fn.{CalledAt};
 ghost use Rattle.std.specs.VecDeque.{deque_len, deque_capacity};
 ghost use Rattle.pu_index.specs.Calls.{Calls, Filters, kept};
