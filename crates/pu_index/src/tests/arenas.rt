@@ -1,9 +1,10 @@
 // Arenas.
-ghost use Rattle.std.specs.Prelude.{◌≡◌, ◌≢◌, ◌<◌, length, slice_set};
+ghost use Rattle.std.specs.Prelude.{◌≡◌, ◌≢◌, ◌<◌, ◌∷◌, [], length, slice_set, IfOk};
 
 use crate::arena::pair_of;
 use crate::*;
 use pu_order::PolarsUtilsError;
+use std::alloc::Global;
 use std::test::Fail;
 
 #[test]
@@ -93,5 +94,23 @@ fn replaces_by_answers(rt: HostRuntime) -> Result<(), Fail> {
     let refused = arena.try_replace_with(n, |_x| Err(PolarsUtilsError::SeekOutOfRange));
     assert!(rt; matches!(refused, Err(PolarsUtilsError::SeekOutOfRange)));
     assert_eq!(rt; *arena.get(n), 0);
+    Ok(())
+}
+
+// An arena that was made with room for two entries takes both.
+fn two_entries(alloc: Global, first: u32, second: u32) -> pu_order::Result<Arena<u32>>
+    ensures { IfOk result (λ arena. arena.items ≡ first ∷ second ∷ []) }
+{
+    let mut arena = Arena::with_capacity(alloc, 2)?;
+    arena.add(first).unwrap();
+    arena.add(second).unwrap();
+    Ok(arena)
+}
+
+#[test]
+fn has_the_room_that_was_asked_for(rt: HostRuntime) -> Result<(), Fail> {
+    let arena = two_entries(rt.alloc(), 3, 4)?;
+    assert_eq!(rt; *arena.get(Node(0)), 3);
+    assert_eq!(rt; *arena.get(Node(1)), 4);
     Ok(())
 }
