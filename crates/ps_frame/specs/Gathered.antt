@@ -1,5 +1,6 @@
 -- What stands at chosen places.
-use Rattle.std.specs.Prelude.{ℕ, List, [], length, map, get_or, Option, Some, None}
+use Rattle.std.specs.Prelude.{◌≡◌, ℕ, ◌<◌, List, [], length, map, get_or, Option, Some, None}
+use Rattle.std.specs.List.{All}
 use Rattle.ps_frame.specs.Frames.{kept}
 use Rattle.ps_frame.specs.Typed.{Typed}
 use Rattle.ps_frame.specs.Zip.{below}
@@ -27,6 +28,13 @@ rows_at places rows = map (λ i. get_or rows i []) places
 abbrev pub picked : Option (List ℕ) → List Value → List Value
 picked None values = values
 picked (Some places) values = map (λ i. get_or values i val.Null) places
+
+-- the values are those at these places of so many others
+pub record ArePicked (values : List Value) (places : List ℕ) (count : ℕ) : Type 0 where
+  pub others : List Value
+  pub many : length others ≡ count
+  pub within : All (λ i. i < count) places
+  pub are : values ≡ picked (Some places) others
 
 -- the rows beside which a mask is true
 abbrev pub true_rows : List Value → List ℕ
