@@ -3,6 +3,7 @@ pub mod RowValues
 pub mod FirstRows
 pub mod Numberings
 pub mod KeyChains
+pub mod Codes
 pub mod Places
 pub mod Parts
 pub mod KeptRows

@@ -1,4 +1,5 @@
 pub mod Numbering
 pub mod Hashes
 pub mod Chains
+pub mod Codes
 pub mod KeyRows

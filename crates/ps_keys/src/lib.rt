@@ -2,6 +2,7 @@
 #![tactic(auto)]
 
 pub mod key_rows;
+mod known;
 pub mod numbering;
 mod rows;
 mod table;

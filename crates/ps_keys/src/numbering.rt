@@ -4,6 +4,7 @@ ghost use Rattle.ps_frame.specs.Frames.{AllOfHeight, column_values};
 ghost use Rattle.ps_frame.specs.Tables.{rows_of};
 ghost use Rattle.ps_keys.specs.Numbering.{Numbers};
 
+use crate::known::KnownKeys;
 use crate::table::KeyTable;
 use ps_frame::column::Column;
 use std::alloc::{AllocError, Global};
@@ -28,9 +29,10 @@ pub fn number_rows(
     ensures { IfOk result (Numbers (rows_of height (column_values columns.now))) }
 {
     let mut table = KeyTable::new(alloc)?;
+    let mut known = KnownKeys::new(alloc, columns, height)?;
     let mut keys = Vec::with_capacity(alloc, height)?;
     for row in 0..height {
-        keys.push(table.number_of(alloc, columns, row)?)?;
+        keys.push(known.number_of(alloc, &mut table, columns, row)?)?;
     }
     let KeyTable { firsts, .. } = table;
     Ok(Numbering { keys, firsts })

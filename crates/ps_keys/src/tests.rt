@@ -63,3 +63,42 @@ fn rows_of_each_key_stand_together(rt: HostRuntime) -> Result<(), Fail> {
     assert_eq!(rt; rows.len(), 3);
     Ok(())
 }
+
+// Row i has i modulo 7, and null where it is divisible by 3: few values in many cells.
+fn few_values(alloc: Global) -> Result<DataFrame, Fail> {
+    let mut sevenths = Vec::new(alloc);
+    let mut thirds = Vec::new(alloc);
+    for i in 0..2100i64 {
+        sevenths.push(Value::Int64(i % 7))?;
+        thirds.push(match i % 3 {
+            0 => Value::Null,
+            rest => Value::Boolean(rest == 1),
+        })?;
+    }
+    let mut schema = Schema::new(alloc);
+    schema.push(alloc, PlSmallStr::from_str(alloc, "n")?, DataType::Int64)?;
+    schema.push(alloc, PlSmallStr::from_str(alloc, "b")?, DataType::Boolean)?;
+    let columns = vec![in alloc;
+        Column::new(alloc, DataType::Int64, sevenths)?,
+        Column::new(alloc, DataType::Boolean, thirds)?,
+    ]?;
+    Ok(DataFrame::new(alloc, schema, columns)?)
+}
+
+#[test]
+fn keys_are_known_by_the_places_of_few_values(rt: HostRuntime) -> Result<(), Fail> {
+    let df = few_values(rt.alloc())?;
+    for column in df.get_columns() {
+        assert!(rt; column.picks().is_some());
+    }
+    let numbering = number_rows(rt.alloc(), df.get_columns(), df.height())?;
+    assert_eq!(rt; numbering.keys.len(), 2100);
+    for i in 0..numbering.keys.len() {
+        assert_eq!(rt; numbering.keys[i], i % 21);
+    }
+    assert_eq!(rt; numbering.firsts.len(), 21);
+    for k in 0..numbering.firsts.len() {
+        assert_eq!(rt; numbering.firsts[k], k);
+    }
+    Ok(())
+}

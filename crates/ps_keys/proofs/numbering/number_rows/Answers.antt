@@ -1,7 +1,5 @@
-use Rattle.std.proofs.Common.{◌≡◌, length, map, arith, rules, refl, sym, ap, subst, ◌∙◌}
+use Rattle.std.proofs.Common.{◌≡◌, map, arith, rules, sym, ap, subst, ◌∙◌}
 use Rattle.std.proofs.lemmas.List.{length-map}
-use Rattle.ps_frame.specs.Tables.{rows_of}
-use Rattle.ps_frame.specs.Frames.{column_values}
 use Rattle.ps_frame.specs.Zip.{below}
 use Rattle.ps_keys.specs.Hashes.{row_at}
 use Rattle.ps_keys.specs.Numbering.{Numbers}
@@ -16,6 +14,7 @@ loop-row-init c = record {
   numbers = numbers-none _ (search rules) (search rules);
   sound = c.in_ok-table.ensures.sound (row_at c.args.columns.now);
   buckets = search rules;
+  known = c.in_ok-known.ensures c.in_ok-table.table.firsts.items;
 }
 
 pub number_of-requires-clause-rows : goal.number_of-requires-clause-rows
@@ -29,6 +28,7 @@ loop-row-preserved c = record {
   numbers = numbers-step (row_at c.args.columns.now) c.loop-row.row _ _ _ c.loop-row.invariant.numbers c.in_ok-number_of.ensures.number (search rules);
   sound = c.in_ok-number_of.ensures.sound;
   buckets = search rules;
+  known = c.in_ok-number_of.ensures.known;
 }
 
 pub returns : goal.returns
