@@ -6,3 +6,4 @@ pub mod KeyChains
 pub mod Places
 pub mod Parts
 pub mod KeptRows
+pub mod Exact
