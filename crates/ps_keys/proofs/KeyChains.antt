@@ -5,7 +5,7 @@ use Rattle.std.proofs.lemmas.List.{get_or-set_same, get_or-set_other, get_or_app
 use Rattle.pu_order.specs.Hashing.{partition_of}
 use Rattle.ps_frame.specs.declared.value.Value.{Value}
 use Rattle.ps_keys.specs.declared.table.KeyTable.{KeyTable}
-use Rattle.ps_keys.specs.Chains.{IsLast, IsChained, IsSound, IsNew, buckets_of}
+use Rattle.ps_keys.specs.Chains.{IsLast, IsChained, IsSound, buckets_of}
 use Rattle.ps_keys.specs.Hashes.{row_hash}
 
 get_or-last : (xs : List ℕ) (x d : ℕ) → get_or (xs ++ x ∷ []) (length xs) d ≡ x

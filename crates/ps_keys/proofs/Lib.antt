@@ -7,3 +7,4 @@ pub mod Codes
 pub mod Places
 pub mod Parts
 pub mod KeptRows
+pub mod Exact

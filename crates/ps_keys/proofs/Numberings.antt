@@ -1,9 +1,9 @@
 -- What the numbers of rows say, and how they grow.
-use Rattle.std.proofs.Common.{◌≡◌, ◌≢◌, ℕ, zero, suc, ◌+◌, ◌<◌, ◌≤◌, List, [], ◌∷◌, ◌++◌, length, get_or, take, map, Bool, true, false, cond, refl, sym, ap, subst, ◌∙◌, arith, inl, inr, ◌⊎◌}
-use Rattle.std.specs.Prelude.{not, ◌||◌, ◌==◌, nat_eq, filter as kept, slice_get, Option, Some, None}
+use Rattle.std.proofs.Common.{◌≡◌, ◌≢◌, ℕ, zero, suc, ◌+◌, ◌<◌, List, [], ◌∷◌, ◌++◌, length, get_or, map, Bool, true, false, cond, refl, sym, ap, subst, ◌∙◌, arith, inl, inr, ◌⊎◌}
+use Rattle.std.specs.Prelude.{not, ◌||◌, ◌==◌, filter as kept, slice_get, Option, Some, None}
 use Rattle.std.specs.List.{list_any}
 use Rattle.std.proofs.lemmas.Bool.{cases_eq, eq-eqb, ne_eqb, or_parts}
-use Rattle.std.proofs.lemmas.List.{append-nil, get_or-map, get_or_append_left, get_or_push, length_push, map_push, length-map}
+use Rattle.std.proofs.lemmas.List.{append-nil, get_or-map, map_push, length-map}
 use Rattle.std.proofs.lemmas.List.Folds.{list_any_at, list_any_none}
 use Rattle.std.proofs.lemmas.Option.{get_or_from_slice_get, same_Some, slice_get-get_or, slice_get_within}
 use Rattle.ps_frame.specs.Values.{same_row}
@@ -13,8 +13,8 @@ use Rattle.ps_plan.specs.Distinct.{distinct_rows}
 use Rattle.ps_keys.specs.declared.numbering.Numbering.{Numbering}
 use Rattle.ps_keys.specs.Chains.{IsNumbered}
 use Rattle.ps_keys.specs.Numbering.{Numbers, first_places}
-use Rattle.ps_keys.proofs.SameRows.{same_row-from, same_row-is, same_row-not}
-use Rattle.ps_keys.proofs.FirstRows.{firsts-at, firsts_by, firsts_by-push, firsts_by-rows, first_places-below, first_places-push, items_at, length-below, row-below, unless}
+use Rattle.ps_keys.proofs.SameRows.{same_row-from, same_row-not}
+use Rattle.ps_keys.proofs.FirstRows.{firsts-at, firsts_by-push, firsts_by-rows, first_places-below, first_places-push, items_at, length-below, row-below, unless}
 
 -- the distinct rows are the rows at the first places
 pub distinct-at : (rows : List (List Value)) → items_at [] rows (first_places rows) ≡ distinct_rows rows

@@ -1,6 +1,8 @@
 -- Rows of columns, and their hashes.
-use Rattle.std.specs.Prelude.{ℕ, ◌<◌, List, map, fold, get_or, length}
+use Rattle.std.specs.Prelude.{◌≡◌, ℕ, ◌<◌, ◌*◌, ◌%◌, ◌^◌, ℤ, List, [], ◌∷◌, map, fold, get_or, length, Option, Some, None, unwrap_or, if◌then◌else◌}
+use Rattle.std.specs.Int.{w64, cast_unsigned, int_wrap}
 use Rattle.std.specs.List.{All}
+use Rattle.std.specs.Ordering.{int_eq}
 use Rattle.std.specs.Hash as fed
 use Rattle.std.specs.Hash.FoldHasher as folding
 use Rattle.std.specs.declared.hash.FoldHasher.{FoldHasher}
@@ -28,6 +30,28 @@ writes (val.String s) = fed.str s
 abbrev pub with_value : FoldHasher → Value → FoldHasher
 with_value state v = fold folding.write state (writes v)
 
+-- times an odd number, by which no two numbers below 2 ^ 64 come together
+abbrev pub times_odd : ℕ → ℕ
+times_odd n = n * 11400714819323198485 % 2 ^ 64
+
+-- the hash of a number: unless it is 0 no other number has it, and what 64 bits don't hold has 0
+abbrev pub number_hash : ℤ → ℕ
+number_hash z = if int_eq (int_wrap w64 z) z then times_odd (cast_unsigned w64 z) else 0
+
+-- the hash of a number or a null that stands alone in its row
+abbrev pub alone_hash : List Value → Option ℕ
+alone_hash (val.Null ∷ []) = Some 0
+alone_hash (val.Int64 z ∷ []) = Some (number_hash z)
+alone_hash _ = None
+
+-- the hash of a row by its values one after another
+abbrev pub fed_hash : List Value → ℕ
+fed_hash row = folding.finish (fold with_value folding.initial row)
+
 -- the hash of a row
 abbrev pub row_hash : List Value → ℕ
-row_hash row = folding.finish (fold with_value folding.initial row)
+row_hash row = unwrap_or (alone_hash row) (fed_hash row)
+
+-- rows of this hash are equal
+abbrev pub TellsApart : List Typed → ℕ → Type 0
+TellsApart columns hash = (a b : ℕ) → row_hash (row_at columns a) ≡ hash → row_hash (row_at columns b) ≡ hash → row_at columns a ≡ row_at columns b

@@ -1,10 +1,13 @@
 // Rows of columns: whether two are the same, and the hash of one.
 ghost use Rattle.std.specs.Prelude.{◌≡◌, ◌↔◌, IsTrue};
-ghost use Rattle.ps_keys.specs.Hashes.{HaveRow, row_at, row_hash, with_value};
+ghost use Rattle.ps_keys.specs.Hashes.{HaveRow, TellsApart, alone_hash, fed_hash, number_hash, row_at, row_hash, with_value};
 
 use ps_frame::column::Column;
-use ps_frame::value::Value;
+use ps_frame::value::{DataType, Value};
 use std::hash::{FoldHasher, Hash, Hasher};
+
+// An odd factor, with which no two numbers get the same hash.
+const FACTOR: u64 = 0x9e37_79b9_7f4a_7c15;
 
 // Whether two values are the same; null is the same as null.
 fn is_same(a: &Value, b: &Value) -> bool
@@ -46,14 +49,59 @@ fn feed(value: &Value, state: &mut FoldHasher)
     }
 }
 
-/// The hash of a row, which depends on its values alone.
-pub(crate) fn hash_of(columns: &[Column], row: usize) -> u64
+// The hash of a number, which no other number has.
+fn hash_number(number: i64) -> u64
+    ensures { result ≡ number_hash number }
+{
+    number.cast_unsigned().wrapping_mul(FACTOR)
+}
+
+// The hash of a number or a null that stands alone in its row.
+fn hash_alone(columns: &[Column], row: usize) -> Option<u64>
     requires { HaveRow columns.now row }
-    ensures { result ≡ row_hash (row_at columns.now row) }
+    ensures { result ≡ alone_hash (row_at columns.now row) }
+{
+    match columns {
+        [column] => match column.value(row) {
+            Value::Null => Some(0),
+            Value::Int64(number) => Some(hash_number(*number)),
+            _ => None,
+        },
+        _ => None,
+    }
+}
+
+// The hash of a row by its values one after another.
+fn feed_all(columns: &[Column], row: usize) -> u64
+    requires { HaveRow columns.now row }
+    ensures { result ≡ fed_hash (row_at columns.now row) }
 {
     let mut state = FoldHasher::default();
     for column in columns {
         feed(column.value(row), &mut state);
     }
     state.finish()
+}
+
+/// The hash of a row, which depends on its values alone.
+pub(crate) fn hash_of(columns: &[Column], row: usize) -> u64
+    requires { HaveRow columns.now row }
+    ensures { result ≡ row_hash (row_at columns.now row) }
+{
+    match hash_alone(columns, row) {
+        Some(hash) => hash,
+        None => feed_all(columns, row),
+    }
+}
+
+/// Whether rows of this hash are the same. It is so of numbers that stand alone; 0 has the hash of
+/// null.
+pub(crate) fn tells_apart(columns: &[Column], hash: u64) -> bool
+    ensures { IsTrue result → TellsApart columns.now hash }
+{
+    let [column] = columns else {
+        return false;
+    };
+    column.values_fit();
+    hash != 0 && column.dtype() == DataType::Int64
 }

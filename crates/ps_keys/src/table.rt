@@ -4,7 +4,7 @@ ghost use Rattle.ps_frame.specs.declared.value.Value.{Value};
 ghost use Rattle.ps_keys.specs.Chains.{HaveRows, IsKeyOf, IsNew, IsNumbered, IsSound};
 ghost use Rattle.ps_keys.specs.Hashes.{HaveRow, row_at, row_hash};
 
-use crate::rows::{are_same, hash_of};
+use crate::rows::{are_same, hash_of, tells_apart};
 use ps_frame::column::Column;
 use pu_order::hash_to_partition;
 use std::alloc::{AllocError, Global};
@@ -144,7 +144,8 @@ impl KeyTable {
         requires within { key < length self.now.firsts.items }
         ensures { IsTrue result ↔ (row_at columns.now (slice_index self.now.firsts.items key) ≡ row_at columns.now row) }
     {
-        self.hashes[key] == hash && are_same(columns, self.firsts[key], row)
+        self.hashes[key] == hash
+            && (tells_apart(columns, hash) || are_same(columns, self.firsts[key], row))
     }
 
     // Puts in a key that is new, by its first row and its hash.

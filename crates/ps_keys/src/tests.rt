@@ -102,3 +102,38 @@ fn keys_are_known_by_the_places_of_few_values(rt: HostRuntime) -> Result<(), Fai
     }
     Ok(())
 }
+
+// Rows 0, null, -1, the least and the greatest number, and once more from the last to the first.
+fn extremes(alloc: Global) -> Result<DataFrame, Fail> {
+    let mut values = Vec::new(alloc);
+    for value in [
+        Value::Int64(0),
+        Value::Null,
+        Value::Int64(-1),
+        Value::Int64(i64::MIN),
+        Value::Int64(i64::MAX),
+        Value::Int64(i64::MAX),
+        Value::Int64(i64::MIN),
+        Value::Int64(-1),
+        Value::Null,
+        Value::Int64(0),
+    ] {
+        values.push(value)?;
+    }
+    let mut schema = Schema::new(alloc);
+    schema.push(alloc, PlSmallStr::from_str(alloc, "n")?, DataType::Int64)?;
+    let columns = vec![in alloc; Column::new(alloc, DataType::Int64, values)?]?;
+    Ok(DataFrame::new(alloc, schema, columns)?)
+}
+
+#[test]
+fn numbers_alone_are_told_apart(rt: HostRuntime) -> Result<(), Fail> {
+    let df = extremes(rt.alloc())?;
+    let numbering = number_rows(rt.alloc(), df.get_columns(), df.height())?;
+    assert_eq!(rt;
+        numbering.keys.as_slice(),
+        [0, 1, 2, 3, 4, 4, 3, 2, 1, 0].as_slice()
+    );
+    assert_eq!(rt; numbering.firsts.as_slice(), [0, 1, 2, 3, 4].as_slice());
+    Ok(())
+}

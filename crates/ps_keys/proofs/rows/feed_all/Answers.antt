@@ -1,5 +1,5 @@
 use Rattle.ps_keys.proofs.RowValues.{hash-more}
-use Rattle.ps_keys.proofs.rows.hash_of.Goals as goal
+use Rattle.ps_keys.proofs.rows.feed_all.Goals as goal
 
 pub loop-column-preserved : goal.loop-column-preserved
 loop-column-preserved c =
