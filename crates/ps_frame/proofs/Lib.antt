@@ -10,5 +10,6 @@ pub mod Broadcasts
 pub mod SmallCases
 pub mod NamePlaces
 pub mod Gathers
+pub mod Aboves
 pub mod Seams
 pub mod Packing

@@ -29,6 +29,11 @@ abbrev pub picked : Option (List ℕ) → List Value → List Value
 picked None values = values
 picked (Some places) values = map (λ i. get_or values i val.Null) places
 
+-- the places of so many values, or those that are picked of them
+abbrev pub places_of : ℕ → Option (List ℕ) → List ℕ
+places_of n None = below n
+places_of n (Some places) = places
+
 -- the values are those at these places of so many others
 pub record ArePicked (values : List Value) (places : List ℕ) (count : ℕ) : Type 0 where
   pub others : List Value
