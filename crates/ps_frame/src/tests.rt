@@ -394,6 +394,34 @@ fn places_are_picked_from_both_runs(rt: HostRuntime) -> Result<(), Fail> {
     Ok(())
 }
 
+// The last of 5,000 numbers and one of the first.
+fn two_of_many(alloc: Global) -> Result<Column, FrameError> {
+    let many = numbered(alloc, 0, 5000)?;
+    picked(alloc, &many, 4999, 7)
+}
+
+#[test]
+fn picked_values_stand_above_a_long_column(rt: HostRuntime) -> Result<(), Fail> {
+    let upper = two_of_many(rt.alloc())?;
+    let lower = numbered(rt.alloc(), 70_000, 6000)?;
+    let both = below(rt.alloc(), &upper, &lower)?;
+    assert_eq!(rt; both.len(), 6002);
+    assert!(rt; has_index(&both, 0, Some(4999)) && has_index(&both, 1, Some(7)));
+    assert!(rt; has_index(&both, 2, Some(70_000)) && has_index(&both, 6001, Some(75_999)));
+    Ok(())
+}
+
+#[test]
+fn picked_values_stand_below_a_long_column(rt: HostRuntime) -> Result<(), Fail> {
+    let upper = numbered(rt.alloc(), 70_000, 6000)?;
+    let lower = two_of_many(rt.alloc())?;
+    let both = below(rt.alloc(), &upper, &lower)?;
+    assert_eq!(rt; both.count_runs(), 2);
+    assert!(rt; has_index(&both, 0, Some(70_000)) && has_index(&both, 5999, Some(75_999)));
+    assert!(rt; has_index(&both, 6000, Some(4999)) && has_index(&both, 6001, Some(7)));
+    Ok(())
+}
+
 // A number, a long column, a null and that column again.
 fn long_columns_built(alloc: Global) -> Result<Column, FrameError> {
     let long = numbered(alloc, 0, 5000)?;

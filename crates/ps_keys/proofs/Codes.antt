@@ -1,6 +1,7 @@
 -- What is known of keys by the codes of rows, and how it grows.
 use Rattle.std.proofs.Common.{◌≡◌, ℕ, zero, suc, ◌+◌, ◌-◌, ◌*◌, ◌/◌, ◌%◌, ◌<◌, List, [], ◌∷◌, ◌++◌, length, get_or, set, take, fold, refl, sym, ap, subst, ◌∙◌, inl, inr, arith}
 use Rattle.std.proofs.Math.Nat.{mod-eq_of_lt, mul-add-mod_self_right, mul-div_cancel}
+use Rattle.std.proofs.Math.Seq.{get_or-append_seam}
 use Rattle.std.proofs.lemmas.Bool.{cases_eq}
 use Rattle.std.proofs.lemmas.List.{get_or-map, get_or-set_other, get_or-set_same, get_or_append_left, length-map, length_push, take_more}
 use Rattle.ps_frame.specs.Gathered.{ArePicked}
@@ -48,10 +49,6 @@ same-row (p ∷ ps) (t ∷ cs) c d i j are first second e =
     value-at t.values p.places.now p.count are.0 i here ∙ ap (λ k. get_or are.0.others k val.Null) digits.1 ∙ sym (value-at t.values p.places.now p.count are.0 j there) in
     (digits.0, ap (λ v. v ∷ row_at cs i) value ∙ ap (λ r. get_or t.values j val.Null ∷ r) rest.1)
 
-get_or-last : (xs : List ℕ) (x d : ℕ) → get_or (xs ++ x ∷ []) (length xs) d ≡ x
-get_or-last [] x d = refl
-get_or-last (y ∷ xs) x d = get_or-last xs x d
-
 module _ (row : ℕ → List Value) (firsts more : List ℕ) (x n : ℕ) (is : IsNumbered row firsts more x n) where
   -- a row that is numbered has the key
   numbered-key : IsKeyOf row more x n
@@ -59,7 +56,7 @@ module _ (row : ℕ → List Value) (firsts more : List ℕ) (x n : ℕ) (is : I
     | inl old ↦ subst (λ fs. IsKeyOf row fs x n) (sym old.1) old.0
     | inr new ↦ record {
       within = omega (arith, new.1, ap length new.2, length_push firsts x);
-      same = ap row (ap (λ k. get_or more k 0) new.1 ∙ ap (λ fs. get_or fs (length firsts) 0) new.2 ∙ get_or-last firsts x 0);
+      same = ap row (ap (λ k. get_or more k 0) new.1 ∙ ap (λ fs. get_or fs (length firsts) 0) new.2 ∙ get_or-append_seam firsts x [] 0);
     }
   ]
 

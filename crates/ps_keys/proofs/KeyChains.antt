@@ -1,5 +1,6 @@
 -- How chains grow, and how they are walked.
 use Rattle.std.proofs.Common.{◌≡◌, ◌≢◌, ℕ, zero, suc, ◌+◌, ◌-◌, ◌<◌, ◌≤◌, List, [], ◌∷◌, ◌++◌, length, get_or, set, replicate, map, refl, sym, ap, subst, ◌∙◌, inl, inr, arith}
+use Rattle.std.proofs.Math.Seq.{get_or-append_seam}
 use Rattle.std.proofs.lemmas.Bool.{cases_eq, cases_lt}
 use Rattle.std.proofs.lemmas.List.{get_or-set_same, get_or-set_other, get_or_append_left, get_or-map, length-map, length-set, length_push, map_push}
 use Rattle.pu_order.specs.Hashing.{partition_of}
@@ -7,10 +8,6 @@ use Rattle.ps_frame.specs.declared.value.Value.{Value}
 use Rattle.ps_keys.specs.declared.table.KeyTable.{KeyTable}
 use Rattle.ps_keys.specs.Chains.{IsLast, IsChained, IsSound, buckets_of}
 use Rattle.ps_keys.specs.Hashes.{row_hash}
-
-get_or-last : (xs : List ℕ) (x d : ℕ) → get_or (xs ++ x ∷ []) (length xs) d ≡ x
-get_or-last [] x d = refl
-get_or-last (y ∷ xs) x d = get_or-last xs x d
 
 get_or-replicate : (z n k : ℕ) → get_or (replicate n z) k z ≡ z
 get_or-replicate z zero zero = refl
@@ -35,7 +32,7 @@ IsLast-later bs b c place differs last =
       within = omega (arith, last.within);
       points = kept.points;
       none_between = λ j from below. elim (cases_eq j (length bs)) [
-        | inl same ↦ λ e. differs (sym (get_or-last bs c 0) ∙ ap (λ k. get_or (bs ++ c ∷ []) k 0) (sym same) ∙ e)
+        | inl same ↦ λ e. differs (sym (get_or-append_seam bs c [] 0) ∙ ap (λ k. get_or (bs ++ c ∷ []) k 0) (sym same) ∙ e)
         | inr other ↦ kept.none_between j from (omega arith)
       ];
     }
@@ -46,7 +43,7 @@ IsLast-here bs b =
     let back : length bs + 1 - 1 ≡ length bs = omega arith in
     record {
       within = omega arith;
-      points = λ _. ap (λ k. get_or (bs ++ b ∷ []) k 0) back ∙ get_or-last bs b 0;
+      points = λ _. ap (λ k. get_or (bs ++ b ∷ []) k 0) back ∙ get_or-append_seam bs b [] 0;
       none_between = λ j from below. absurd (omega arith);
     }
 
@@ -85,10 +82,10 @@ IsChained-push heads bs nexts b in_heads chained =
           ]);
       nexts_are_last = λ k below. elim (cases_eq k (length bs)) [
         | inl same ↦
-            let read : get_or (nexts ++ h ∷ []) (length bs) 0 ≡ h = ap (λ n. get_or (nexts ++ h ∷ []) n 0) (sym chained.linked) ∙ get_or-last nexts h 0 in
+            let read : get_or (nexts ++ h ∷ []) (length bs) 0 ≡ h = ap (λ n. get_or (nexts ++ h ∷ []) n 0) (sym chained.linked) ∙ get_or-append_seam nexts h [] 0 in
             let at : IsLast bs' (get_or bs' (length bs) 0) (get_or (nexts ++ h ∷ []) (length bs) 0) (length bs) =
             subst (λ place. IsLast bs' (get_or bs' (length bs) 0) place (length bs)) (sym read)
-            (subst (λ c. IsLast bs' c h (length bs)) (sym (get_or-last bs b 0))
+            (subst (λ c. IsLast bs' c h (length bs)) (sym (get_or-append_seam bs b [] 0))
             (IsLast-append bs (b ∷ []) b h (length bs) (omega arith) (chained.heads_are_last b in_heads))) in
             subst (λ n. IsLast bs' (get_or bs' n 0) (get_or (nexts ++ h ∷ []) n 0) n) (sym same) at
         | inr other ↦
