@@ -14,7 +14,7 @@ invariant_of-result-2 c =
     let b = c.other.inside in
     let run = c.run.inside.first ++ end_to_end c.run.inside.rest.items in
     let joined : run ≡ a.run ++ b.run = search rules in
-    let upper : c.push_places.new.out.items ≡ map (λ i. 0 + i) (places_of c.len-2.result a.places) = c.in_ok-push_places.ensures.pushed ∙ ap (λ zs. zs ++ map (λ i. 0 + i) (places_of c.len-2.result a.places)) c.new-places.ensures.items in
+    let upper : c.push_places.new.out.items ≡ map (λ i. 0 + i) (places_of c.len-2.result a.places) = c.in_ok-push_places.ensures.pushed ∙ ap (λ zs. zs ++ map (λ i. 0 + i) (places_of c.len-2.result a.places)) c.in_ok-places.ensures.items in
     let both : c.in_ok-new.field-0 ≡ c.push_places.new.out.items ++ map (λ i. c.len-4.result + i) (places_of c.len-3.result b.places) = search rules in
     let kinds = rw (← c.self.view_is, ← c.other.view_is) at c.requires in
     let theirs : IsTrue (all_fit a.dtype b.run) = rw (kinds) c.other.invariant.1 in (
@@ -28,7 +28,7 @@ returns-clause-joined c =
     let b = c.other.inside in
     let run = c.run.inside.first ++ end_to_end c.run.inside.rest.items in
     let joined : run ≡ a.run ++ b.run = search rules in
-    let upper : c.push_places.new.out.items ≡ map (λ i. 0 + i) (places_of c.len-2.result a.places) = c.in_ok-push_places.ensures.pushed ∙ ap (λ zs. zs ++ map (λ i. 0 + i) (places_of c.len-2.result a.places)) c.new-places.ensures.items in
+    let upper : c.push_places.new.out.items ≡ map (λ i. 0 + i) (places_of c.len-2.result a.places) = c.in_ok-push_places.ensures.pushed ∙ ap (λ zs. zs ++ map (λ i. 0 + i) (places_of c.len-2.result a.places)) c.in_ok-places.ensures.items in
     let both : c.in_ok-new.field-0 ≡ c.push_places.new.out.items ++ map (λ i. c.len-4.result + i) (places_of c.len-3.result b.places) = search rules in
     let values = placed-values a.run b.run run a.places b.places c.push_places.new.out.items c.in_ok-new.field-0 c.len-2.result c.len-3.result c.len-4.result (search rules) (search rules) (search rules) joined upper both c.self.invariant.0 in
     (λ t. record { kind = a.dtype; values = values t }) ∙ (λ t. above (c.self.view_is t) (c.other.view_is t))
