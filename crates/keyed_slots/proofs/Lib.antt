@@ -1,1 +1,2 @@
+mod LiveLemmas
 pub mod SlotLemmas

@@ -5,8 +5,6 @@ pub mod key;
 pub mod secondary_map;
 mod slot;
 pub mod slot_map;
-#[cfg(test)]
-mod tests;
 
 pub use key::Key;
 pub use secondary_map::SecondaryMap;

@@ -2,7 +2,7 @@
 //!
 //! The keys' numbers count the inserts. A call takes constant time, an insert on average; an iterator passes the removed
 //! places by. The places of removed values are kept until the map is dropped.
-ghost use Rattle.std.specs.Prelude.{◌≡◌, ◌+◌, ◌-◌, ◌<◌, ◌≤◌, ◌^◌, ◌++◌, ◌∷◌, ◌↔◌, [], None, Some, length, count_by, is_some, IsSome, IsTrue, IsOk, IfOk, OnErr, option_copied, slice_set, map, filter, not, ◌==◌};
+ghost use Rattle.std.specs.Prelude.{◌≡◌, ◌≢◌, ◌+◌, ◌-◌, ◌<◌, ◌≤◌, ◌^◌, ◌++◌, ◌∷◌, ◌↔◌, [], None, Some, length, count_by, is_some, All, AllPairs, Contains, IsSome, IsTrue, IsOk, IfOk, OnErr, option_copied, slice_set, map, filter, not, ◌==◌};
 ghost use Rattle.std.specs.Option.{option_copied_mut};
 ghost use Rattle.std.specs.Borrow.{sem};
 ghost use Rattle.keyed_slots.specs.Slots.{value_at, live};
@@ -148,16 +148,23 @@ impl<K: Key, V> SlotMap<K, V> {
         self.get(key).is_some()
     }
 
-    /// The keys that have a value, in the order in which they were given.
+    /// The keys that have a value, in the order in which they were given: their numbers rise.
     pub fn keys(&self) -> Keys<'_, K, V>
-        ensures { result ≡ map (λ p. p.0) (live K.key_of self.now.slots) }
+        ensures list { result ≡ map (λ p. p.0) (live K.key_of self.now.slots) }
+        ensures found { All (λ key. IsSome (value_at self.now.slots (K.number_of key))) result }
+        ensures complete { (key : K) → IsSome (value_at self.now.slots (K.number_of key)) → Contains result key }
+        ensures rise { AllPairs (λ a b. K.number_of a < K.number_of b) result }
+        ensures differ { AllPairs (λ a b. a ≢ b) result }
     {
         Keys { pairs: self.iter() }
     }
 
-    /// The keys that have a value with their values, in the order in which they were given.
+    /// The keys that have a value with their values, in the order in which they were given: their numbers rise.
     pub fn iter(&self) -> Iter<'_, K, V>
-        ensures { result ≡ live K.key_of self.now.slots }
+        ensures list { result ≡ live K.key_of self.now.slots }
+        ensures found { All (λ p. value_at self.now.slots (K.number_of p.0) ≡ Some p.1) result }
+        ensures complete { (key : K) (value : V) → value_at self.now.slots (K.number_of key) ≡ Some value → Contains result (key, value) }
+        ensures rise { AllPairs (λ p q. K.number_of p.0 < K.number_of q.0) result }
     {
         Iter {
             slots: self.slots.as_slice(),

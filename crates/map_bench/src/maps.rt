@@ -83,6 +83,7 @@ fn put(alloc: Global, map: &mut BytesIndexMap<u32>, key: &Vec<u8>) -> Result<(),
     }
     match map.entry(hash_of(key), key.as_slice()) {
         Entry::Occupied(_entry) => Ok(()),
+        // The error is the number handed back, which converts to no other error.
         Entry::Vacant(entry) => match entry.insert(alloc, number) {
             Ok(_) => Ok(()),
             Err(_) => Err(AllocError),

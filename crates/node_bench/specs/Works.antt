@@ -1,6 +1,6 @@
 -- The table that is timed and the expressions over it.
 use Rattle.std.specs.Prelude.{ℕ, List, [], ◌∷◌, codes, false, pos, true}
-use Rattle.pu_index.specs.declared.arena.Node.{Node}
+use Rattle.pu_base.specs.declared.arena.Node.{Node}
 use Rattle.ps_frame.specs.Tables.{Fields}
 use Rattle.ps_frame.specs.declared.expr.AExpr.{AExpr}
 use Rattle.ps_frame.specs.declared.expr.AExpr.TheVariants as entry

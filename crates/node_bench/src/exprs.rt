@@ -5,14 +5,13 @@ ghost use Rattle.ps_frame.specs.declared.expr.AExpr.TheVariants as entry;
 
 use crate::table::{Summary, make, weight};
 use anyhow::{Result, bail};
-use ps_eval::evaluate::evaluate;
+use ps_expr_eval::evaluate::evaluate;
 use ps_frame::expr::{AExpr, IRAggExpr, LiteralValue, Operator};
 use ps_frame::frame::DataFrame;
 use ps_frame::items::Items;
 use ps_frame::refusal::PolarsResult;
 use ps_frame::value::{Cell, DataType, Evaluated};
-use pu_index::{Arena, Node};
-use pu_order::{PlSmallStr, PolarsUtilsError};
+use pu_base::{Arena, Node, PlSmallStr, PolarsUtilsError};
 use std::alloc::Global;
 
 /// An expression over the table.

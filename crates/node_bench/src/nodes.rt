@@ -1,11 +1,10 @@
 // Nodes that are timed, over whole tables.
 ghost use Rattle.std.specs.Prelude.{◌≡◌, ◌<◌};
-ghost use Rattle.ps_tables.specs.Called.{functions_of};
 ghost use Rattle.ps_validate.specs.Valid.{IsValidWith};
 
 use crate::table::{Summary, keyed, make, summarize};
 use anyhow::{Result, bail};
-use call_trials::counting::CountingFunctions;
+use node_trials::functions::Same;
 use node_trials::tables::node_table;
 use ps_document::document::{Document, read_document};
 use ps_frame::expr::AExpr;
@@ -14,8 +13,7 @@ use ps_frame::functions::Functions;
 use ps_frame::refusal::PolarsResult;
 use ps_plan::ir::IR;
 use ps_validate::validate::{Valid, validate};
-use pu_index::{Arena, Node};
-use pu_order::Steps;
+use pu_base::{Arena, Node, Steps};
 use std::alloc::Global;
 use std::marker::Brand;
 use std::sync::ledger::{Blank, Ledger};
@@ -92,7 +90,7 @@ fn once<F: Functions>(
     exprs: &Arena<AExpr>,
     functions: &F,
 ) -> PolarsResult<DataFrame>
-    requires { IsValidWith (functions_of (F.counted functions.now) F.streams F.answer F.declared) valid.now exprs.now.items }
+    requires { IsValidWith (F.told functions.now) valid.now exprs.now.items }
 {
     node_table(alloc, valid.root(), valid, exprs, functions, 4)
 }
@@ -104,7 +102,7 @@ fn repeat_valid<F: Functions>(
     functions: &F,
     times: u32,
 ) -> PolarsResult<DataFrame>
-    requires { IsValidWith (functions_of (F.counted functions.now) F.streams F.answer F.declared) valid.now exprs.now.items }
+    requires { IsValidWith (F.told functions.now) valid.now exprs.now.items }
 {
     let mut last = once(alloc, valid, exprs, functions)?;
     for _ in 1..times {
@@ -125,9 +123,8 @@ fn repeat_plan<L: Ledger>(
 {
     let Document { nodes, exprs, root } = document;
     let mut steps = Steps::<L>::new(blank);
-    let functions = CountingFunctions::new();
-    let valid = validate(alloc, root, nodes, &exprs, &functions, &mut steps)?;
-    repeat_valid(alloc, &valid, &exprs, &functions, times)
+    let valid = validate(alloc, root, nodes, &exprs, &Same, &mut steps)?;
+    repeat_valid(alloc, &valid, &exprs, &Same, times)
 }
 
 /// Computes the node so many times, but at least once, and tells of the last table. It fails only for want of memory.

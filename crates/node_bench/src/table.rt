@@ -7,7 +7,7 @@ use ps_frame::error::FrameError;
 use ps_frame::frame::DataFrame;
 use ps_frame::schema::Schema;
 use ps_frame::value::{DataType, Value};
-use pu_order::PlSmallStr;
+use pu_base::PlSmallStr;
 use std::alloc::Global;
 
 /// How many keys the table has that others are joined with.

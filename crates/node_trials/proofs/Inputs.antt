@@ -2,18 +2,19 @@
 use Rattle.std.proofs.Common.{◌≡◌, ℕ, zero, suc, ◌+◌, ◌<◌, ◌≤◌, List, [], ◌∷◌, ◌++◌, length, get_or, take, sym, subst, ap, ◌∙◌, arith}
 use Rattle.std.specs.Prelude.{Contains, IfSome, Option, Some, map, slice_get}
 use Rattle.std.proofs.lemmas.List.{map_push, take_all, take_more}
-use Rattle.pu_index.specs.declared.arena.Node.{Node}
+use Rattle.pu_base.specs.declared.arena.Node.{Node}
 use Rattle.ps_frame.specs.Functions.{Functions}
 use Rattle.ps_frame.specs.Tables.{Frame}
-use Rattle.ps_plan.proofs.ReachedSteps.{contains-first, contains-later, path-then}
+use Rattle.ps_meaning.proofs.Containing.{contains-first, contains-later}
+use Rattle.ps_plan.proofs.ReachedSteps.{path-then}
 use Rattle.ps_plan.specs.Graph.{Reached, named_by}
 use Rattle.ps_plan.specs.Plans.{Plan}
-use Rattle.ps_plan.specs.Steps.{entry_inputs}
+use Rattle.ps_plan.specs.Entries.{entry_inputs}
 use Rattle.ps_plan.specs.declared.ir.IR.{IR}
 use Rattle.ps_walks.specs.Accepted.{NodeSchemas, schemas_at}
 use Rattle.ps_walks.specs.Fit.{plan_schemas}
-use Rattle.ps_evaluate.specs.Nodes.{FitInputs}
-use Rattle.ps_evaluate.specs.Ready.{frame_schemas}
+use Rattle.ps_node_eval.specs.Nodes.{FitInputs}
+use Rattle.ps_node_eval.specs.Ready.{frame_schemas}
 
 -- one of several nodes
 abbrev pub node_at : List Node → ℕ → Node

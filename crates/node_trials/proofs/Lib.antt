@@ -1,1 +1,6 @@
 mod Inputs
+mod ZipsTested
+mod RowsTested
+mod GroupsTested
+mod JoinsTested
+mod MapsTested

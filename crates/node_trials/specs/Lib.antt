@@ -1,0 +1,5 @@
+pub mod ZipsTested
+pub mod RowsTested
+pub mod GroupsTested
+pub mod JoinsTested
+pub mod MapsTested

@@ -1,7 +1,7 @@
 // The engine's rows beside those of the plain program, over generated tables.
 use crate::generated::{Numbers, permuted, rows_from, same, table_text};
 use crate::plain::{Key, distinct, filter, group, join, slice, sort};
-use ps_plan::ir::{JoinType, UniqueKeepStrategy};
+use ps_meaning::options::{JoinType, UniqueKeepStrategy};
 use std::test::Fail;
 
 const EXPRS: &str = r#"["col","k"],["col","a"],["sum",1],["len"],["int",2],["gt",1,4],["min",1]"#;

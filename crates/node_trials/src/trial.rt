@@ -1,69 +1,21 @@
 // A document's answer as text.
 ghost use Rattle.std.specs.Prelude.{◌≡◌, ◌<◌};
 
+pub use crate::functions::Same;
 use crate::tables::node_table;
 use ps_document::document::{Document, read_document};
 use ps_frame::column::Column;
 use ps_frame::expr::AExpr;
 use ps_frame::frame::DataFrame;
-use ps_frame::functions::{CallError, Functions};
 use ps_frame::refusal::PolarsResult;
-use ps_frame::schema::Schema;
 use ps_frame::value::Value;
 use ps_plan::ir::IR;
 use ps_validate::validate::validate;
-use pu_index::{Arena, Node};
-use pu_order::Steps;
+use pu_base::{Arena, Node, Steps};
 use std::alloc::{AllocError, Global};
 use std::marker::Brand;
 use std::sync::ledger::{Blank, Ledger};
 use std::test::Fail;
-
-// One function, which answers a table by itself.
-struct Same;
-
-impl Functions for Same {
-    ghost use Rattle.std.specs.Prelude.{Option, Some, option_map, true, refl};
-    ghost use Rattle.std.proofs.Common.{ap, subst};
-    ghost use Rattle.std.proofs.lemmas.Option.{same_Some};
-    ghost use Rattle.ps_frame.specs.Lawful.{FitsFrame};
-    ghost use Rattle.ps_frame.specs.Tables.{Frame};
-
-    ghost answer = { λ n f. Some f };
-
-    ghost declared = { λ n s. Some s };
-
-    ghost streams = { λ n. true };
-
-    ghost counted = { λ _. 1 };
-
-    fn count(&self) -> usize {
-        1
-    }
-
-    fn streamable(&self, _n: usize) -> bool {
-        true
-    }
-
-    fn schema(&self, alloc: Global, _n: usize, given: &Schema) -> Result<Schema, CallError> {
-        match given.try_clone(alloc) {
-            Ok(schema) => Ok(schema),
-            Err(_) => Err(CallError::OutOfMemory),
-        }
-    }
-
-    fn call(&self, _alloc: Global, _n: usize, df: DataFrame) -> Result<DataFrame, CallError> {
-        Ok(df)
-    }
-
-    ghost keeps_schema = { λ n f g e. ap (λ (o : Option Frame). option_map (λ (t : Frame). t.schema) o) e };
-
-    ghost keeps_rows = { λ n f g fits e. subst (λ (t : Frame). FitsFrame t) (same_Some f g e) fits };
-
-    ghost streams_empty = { λ n s streams declared. refl };
-
-    ghost streams_parts = { λ n f g streams same. refl };
-}
 
 fn root_table<L: Ledger>(
     blank: Blank,

@@ -1,28 +1,16 @@
 // Answers queries: a document of tables and a plan in, the table out.
 #![tactic(auto)]
 
-mod answer;
-pub mod csv_text;
-pub mod functions;
-pub mod outcome;
-pub mod reading;
-pub mod sink;
-pub mod source;
-#[cfg(test)]
-mod tests;
-pub mod tool;
-pub mod writing;
-
-use functions::ToolFunctions;
-use outcome::Outcome;
 use ps_exec::gate::NoGate;
-use sink::StdSink;
-use source::StdSource;
 use std::alloc::{AllocError, Global};
 use std::env::{self, Env};
 use std::io::ErrorKind;
 use std::process::ExitCode;
-use tool::{run_tool, write_line};
+use tool_run::functions::ToolFunctions;
+use tool_run::outcome::Outcome;
+use tool_run::sink::StdSink;
+use tool_run::source::StdSource;
+use tool_run::tool::{run_tool, write_line};
 
 /// The words behind the program's name; none where they can't be read as text.
 ///

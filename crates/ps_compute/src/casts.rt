@@ -7,7 +7,7 @@ ghost use Rattle.ps_frame.specs.declared.value.Value.TheVariants as val;
 use itoa::Buffer;
 use ps_frame::error::FrameError;
 use ps_frame::value::{DataType, Value};
-use pu_order::PlSmallStr;
+use pu_base::PlSmallStr;
 use std::alloc::Global;
 
 /// A value of another kind, if it has one there.
@@ -99,19 +99,13 @@ fn read_int64(text: &str) -> Option<i64>
 fn text_to_int64(text: &str) -> Option<Value>
     ensures { result ≡ option_and_then int64_if_fits (read_number text.now) }
 {
-    match read_int64(text) {
-        Some(number) => Some(Value::Int64(number)),
-        None => None,
-    }
+    Some(Value::Int64(read_int64(text)?))
 }
 
 fn text_to_idx(text: &str) -> Option<Value>
     ensures { result ≡ option_and_then idx_if_fits (read_number text.now) }
 {
-    match read_int64(text) {
-        Some(number) => int64_to_idx(number),
-        None => None,
-    }
+    int64_to_idx(read_int64(text)?)
 }
 
 fn to_text(alloc: Global, value: &Value) -> Result<Option<Value>, FrameError>
@@ -134,6 +128,7 @@ fn text_value(alloc: Global, text: &str) -> Result<Option<Value>, FrameError>
 {
     match PlSmallStr::from_str(alloc, text) {
         Ok(copy) => Ok(Some(Value::String(copy))),
+        // A text's own error doesn't convert by `?`; it is want of memory alone.
         Err(_) => Err(FrameError::OutOfMemory),
     }
 }

@@ -8,6 +8,4 @@ pub mod operators;
 pub mod order;
 pub mod selection;
 pub mod sort_key;
-#[cfg(test)]
-mod tests;
 pub mod values;

@@ -12,7 +12,7 @@ use Rattle.ps_frame.proofs.Rows.{values_at-rows_of}
 use Rattle.ps_frame.specs.Frames.{AllOfHeight, HasOneHeight, IsFrame, column_values, frame_of, has_distinct_names, has_name, height_of, kinds_of}
 use Rattle.ps_frame.specs.Lawful.{FitsKinds}
 use Rattle.ps_frame.specs.Tables.{Fields, Frame, beside, rows_of, values_at}
-use Rattle.ps_frame.specs.Typed.{Typed, all_fit}
+use Rattle.ps_frame.specs.Series.{Series, all_fit}
 use Rattle.ps_frame.specs.Values.{fits_kind}
 use Rattle.ps_frame.specs.declared.value.DataType.{DataType}
 use Rattle.ps_frame.specs.declared.value.Value.{Value}
@@ -49,7 +49,7 @@ pub columns_of-rows : (cs : List NamedColumn) (h : ℕ) → AllOfHeight h (typed
 columns_of-rows cs h a = columns_from-is 0 cs (rows_of h (column_values (typed_of cs))) (λ k d l.
     let e : length (typed_of cs) ≡ length cs = length-map cs (λ (c : NamedColumn). c.column) in
     let z : 0 + k ≡ k = omega arith in
-    rw z (values_at-rows_of h k (typed_of cs) d.column a (omega arith) ∙ ap (λ (t : Typed). t.values) (get_or-typed cs k d)))
+    rw z (values_at-rows_of h k (typed_of cs) d.column a (omega arith) ∙ ap (λ (t : Series). t.values) (get_or-typed cs k d)))
 
 -- values of a kind in front of rows that fit make rows that fit
 fits-beside : (k : DataType) (vs : List Value) (ks : List DataType) (rows : List (List Value)) → IsTrue (all_fit k vs) → AllByRecursion (FitsKinds ks) rows → AllByRecursion (FitsKinds (k ∷ ks)) (beside vs rows)
@@ -94,7 +94,7 @@ is_table cs ds z names height = record {
   no_columns (c ∷ cs) e = cc
 
 -- the table that was made of columns
-pub made_table : (cs : List NamedColumn) (ds : List Data) (f : Frame) (schema : Fields) (columns : List Typed) → AllZip IsColumn cs ds → IsTrue (has_distinct_names (fields_of cs)) → schema ≡ fields_of cs → columns ≡ typed_of cs → f ≡ frame_of schema columns
+pub made_table : (cs : List NamedColumn) (ds : List Data) (f : Frame) (schema : Fields) (columns : List Series) → AllZip IsColumn cs ds → IsTrue (has_distinct_names (fields_of cs)) → schema ≡ fields_of cs → columns ≡ typed_of cs → f ≡ frame_of schema columns
     → IsFrame schema columns (height_of columns) → IsTable f (list ds)
 made_table cs ds f schema columns z names s t made frame =
     let height = subst (λ ts. AllOfHeight (height_of ts) ts) t frame.heights in
@@ -115,11 +115,11 @@ heights-of_columns i (f ∷ fs) rows = (length-map rows (λ row. get_or row i va
 pub table-names : (f : Frame) (cs : List NamedColumn) (ds : List Data) → AllZip IsColumn cs ds → IsTable f (list ds) → IsTrue (has_distinct_names (fields_of cs))
 table-names f cs ds z t = rw (table-fields f cs ds z t) t.names
 
-one-height : (cs : List Typed) (h : ℕ) → AllOfHeight h cs → AllOfHeight (height_of cs) cs
+one-height : (cs : List Series) (h : ℕ) → AllOfHeight h cs → AllOfHeight (height_of cs) cs
 one-height [] h a = tt
 one-height (c ∷ cs) h a = (refl, subst (λ n. AllOfHeight n cs) (sym a.0) a.1)
 
-pub table-heights : (f : Frame) (cs : List NamedColumn) (ds : List Data) (schema : Fields) (columns : List Typed) → AllZip IsColumn cs ds → IsTable f (list ds) → schema ≡ fields_of cs → columns ≡ typed_of cs → HasOneHeight schema columns
+pub table-heights : (f : Frame) (cs : List NamedColumn) (ds : List Data) (schema : Fields) (columns : List Series) → AllZip IsColumn cs ds → IsTable f (list ds) → schema ≡ fields_of cs → columns ≡ typed_of cs → HasOneHeight schema columns
 table-heights f cs ds schema columns z t se ce =
     let heights = subst (λ bs. AllOfHeight (length f.rows) (typed_of bs)) (sym (columns-told f cs ds z t)) (heights-of_columns 0 f.schema f.rows) in
     rw (se, ce) (length-map cs (λ (c : NamedColumn). c.column) ∙ sym (length-map cs field_of), one-height (typed_of cs) (length f.rows) heights)

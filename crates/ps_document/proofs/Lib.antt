@@ -1,3 +1,4 @@
+mod FirstWords
 mod Lists
 mod Told
 mod ToldExpr
@@ -5,11 +6,12 @@ mod ToldNode
 mod FrameColumns
 mod CellColumns
 mod ToldTable
-mod TenItems
+mod NineItems
 mod Members
 mod NoPlan
 mod MembersFound
 mod ReadTable
+mod NoExpr
 mod NoNode
 mod Taken
 pub mod OnePlan

@@ -1,6 +1,6 @@
 -- Lists of JSON.
 use Rattle.std.proofs.Common.{◌≡◌, ℕ, zero, suc, ◌+◌, ◌<◌, List, [], ◌∷◌, ◌++◌, length, take, get_or, refl, ap, sym, ◌∙◌, arith}
-use Rattle.std.specs.Prelude.{map, Option, Some, None, IfNone, Result, Ok, Err, IfOk}
+use Rattle.std.specs.Prelude.{map, Option, Some, None, IfNone, IfSome, Result, Ok, Err, IfOk}
 use Rattle.std.specs.List.{AllZip}
 use Rattle.std.proofs.lemmas.Grind.{take_at_read}
 use Rattle.std.proofs.lemmas.List.{append-nil, length-map}
@@ -24,6 +24,10 @@ list_length ds es e = let f : items_of ds ≡ items_of es = cc in sym (items_len
 -- the JSON of values has as many elements
 pub list_length-map : {A : Type 0} (f : A → Data) (xs : List A) (es : List Data) → list (map f xs) ≡ list es → length xs ≡ length es
 list_length-map f xs es e = sym (length-map xs f) ∙ list_length (map f xs) es e
+
+-- what follows the first element of a list of JSON has as many elements
+pub parts_length : {A : Type 0} (f : A → Data) (d : Data) (xs : List A) (es : List Data) → list (d ∷ map f xs) ≡ list (d ∷ es) → length xs ≡ length es
+parts_length f d xs es e = let n : suc (length (map f xs)) ≡ suc (length es) = list_length (d ∷ map f xs) (d ∷ es) e in sym (length-map xs f) ∙ omega arith
 
 -- the elements of a list of JSON
 abbrev pub elements_of : Items → List Data
@@ -79,8 +83,27 @@ pub all_of : {A : Type 0} (ys rest zs : List A) → ys ++ rest ≡ zs → length
 all_of ys [] zs e n = sym (append-nil ys) ∙ e
 all_of ys (x ∷ xs) zs e n = absurd (omega arith)
 
+-- what follows from what holds of what was found
+pub where_some : {T E : Type 0} {P Q : T → Type 0} (r : Result (Option T) E) → ((x : T) → P x → Q x) → IfOk r (λ o. IfSome o P) → IfOk r (λ o. IfSome o Q)
+where_some (Ok None) f h = tt
+where_some (Ok (Some x)) f h = f x h
+where_some (Err e) f h = tt
+
+pub if_some : {T : Type 0} {P Q : T → Type 0} (o : Option T) → ((x : T) → P x → Q x) → IfSome o P → IfSome o Q
+if_some None f h = tt
+if_some (Some x) f h = f x h
+
+pub where_nothing : {T P Q : Type 0} (o : Option T) → (P → Q) → IfNone o P → IfNone o Q
+where_nothing None f h = f h
+where_nothing (Some x) f h = tt
+
 -- what follows from what holds where nothing was found
 pub where_none : {T E P Q : Type 0} (r : Result (Option T) E) → (P → Q) → IfOk r (λ o. IfNone o P) → IfOk r (λ o. IfNone o Q)
 where_none (Ok None) f h = f h
 where_none (Ok (Some x)) f h = tt
 where_none (Err e) f h = tt
+
+-- what follows from three facts that hold where there is nothing
+pub none_of_three : {T P Q R S : Type 0} (o : Option T) → (P → Q → R → S) → IfNone o P → IfNone o Q → IfNone o R → IfNone o S
+none_of_three None f p q r = f p q r
+none_of_three (Some x) f p q r = tt

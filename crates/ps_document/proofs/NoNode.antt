@@ -1,129 +1,121 @@
--- What is the JSON of no node.
-use Rattle.std.proofs.Common.{◌≡◌, ◌≢◌, ◌∷◌, [], ℕ, ℤ, List, Bool, refl}
-use Rattle.std.specs.Prelude.{IsTrue, FitsSigned, Option, Some, codes, slice_get}
+-- What is the JSON of no node, by its word.
+use Rattle.std.proofs.Common.{◌≡◌, ◌≢◌, ◌∷◌, ℕ, ℤ, List, Bool, sym, subst}
+use Rattle.std.specs.Prelude.{IsTrue, FitsSigned, Option, Some, codes, slice_get, unwrap_or}
 use Rattle.std.specs.Int.{w64}
 use Rattle.serde_json.specs.Data.{Data}
-use Rattle.pu_index.specs.declared.arena.Node.{Node}
-use Rattle.ps_frame.specs.Lines.{what_name}
+use Rattle.pu_base.specs.declared.arena.Node.{Node}
 use Rattle.ps_frame.specs.Tables.{Frame}
 use Rattle.ps_frame.specs.declared.expr.What.{What}
-use Rattle.ps_plan.specs.Steps.{Cut}
-use Rattle.ps_plan.specs.declared.ir.DistinctOptions.{DistinctOptions}
-use Rattle.ps_plan.specs.declared.ir.ExprIR.{ExprIR}
-use Rattle.ps_plan.specs.declared.ir.FunctionIR.TheVariants as call
-use Rattle.ps_plan.specs.declared.ir.GroupbyOptions.{GroupbyOptions}
+use Rattle.ps_meaning.specs.Steps.{Cut}
+use Rattle.ps_meaning.specs.declared.options.DistinctOptions.{DistinctOptions}
+use Rattle.ps_meaning.specs.declared.options.ExprIR.{ExprIR}
+use Rattle.ps_meaning.specs.declared.options.FunctionIR.TheVariants as call
+use Rattle.ps_meaning.specs.declared.options.GroupbyOptions.{GroupbyOptions}
 use Rattle.ps_plan.specs.declared.ir.IR.{IR}
 use Rattle.ps_plan.specs.declared.ir.IR.TheVariants as entry
-use Rattle.ps_plan.specs.declared.ir.JoinArgs.{JoinArgs}
-use Rattle.ps_plan.specs.declared.ir.SinkType.{SinkType}
-use Rattle.ps_plan.specs.declared.ir.SortMultipleOptions.{SortMultipleOptions}
-use Rattle.ps_plan.specs.declared.ir.UnionOptions.{UnionOptions}
+use Rattle.ps_meaning.specs.declared.options.JoinArgs.{JoinArgs}
+use Rattle.ps_meaning.specs.declared.options.SinkType.{SinkType}
+use Rattle.ps_meaning.specs.declared.options.SortMultipleOptions.{SortMultipleOptions}
+use Rattle.ps_meaning.specs.declared.options.UnionOptions.{UnionOptions}
+use Rattle.ps_document.proofs.Told.{entry_in, list_in, number_in, option_in, part, text_in, truth_in, whole_number_in, word_at}
+use Rattle.ps_document.proofs.ToldExpr.{what_in}
+use Rattle.ps_document.proofs.ToldNode.{cut_in, join_in, keep_in, key_in, named_in, names_in, no_frame, node-told, node_in, validation_in}
 use Rattle.ps_document.specs.Expressions.{entry_number}
 use Rattle.ps_document.specs.Json.{list, text}
 use Rattle.ps_document.specs.Nodes.{CutFits, IsNode, OffsetFits, function_json, node_json}
-use Rattle.ps_document.specs.Owning.{is_listing_node, is_other_node, is_plain_node}
 use Rattle.ps_document.specs.Words.{is_left_out_kind}
 
--- no node that holds neither a text, a list, a key nor a table
-pub no_plain_node : (d : Data) →
-    ((i : Node) (offset : ℤ) (len : ℕ) → FitsSigned w64 offset → d ≢ node_json 0 (entry.Slice i offset len)) →
-    ((i : Node) (payload : SinkType) → d ≢ node_json 0 (entry.Sink i payload)) →
-    ((i : Node) (n : ℕ) → d ≢ function_json (entry_number i) (call.User n)) →
-    ((i : Node) (id hits : ℕ) → d ≢ node_json 0 (entry.Cache i id hits)) →
-    ((w : What) → IsTrue (is_left_out_kind w) → d ≢ list (text (codes "left_out") ∷ text (what_name w) ∷ [])) →
-    (tables : List Frame) (e : IR) → IsTrue (is_plain_node e) → IsNode tables e d → ⊥
-no_plain_node d slice sink map cache left_out tables (entry.DataFrameScan df columns) p is = cc
-no_plain_node d slice sink map cache left_out tables (entry.SimpleProjection i columns) p is = cc
-no_plain_node d slice sink map cache left_out tables (entry.Select i es) p is = cc
-no_plain_node d slice sink map cache left_out tables (entry.HStack i es) p is = cc
-no_plain_node d slice sink map cache left_out tables (entry.Filter i predicate) p is = cc
-no_plain_node d slice sink map cache left_out tables (entry.Slice i offset len) p is = slice i offset len is.stands is.json
-no_plain_node d slice sink map cache left_out tables (entry.Sink i payload) p is = sink i payload is.json
-no_plain_node d slice sink map cache left_out tables (entry.MapFunction i (call.User n)) p is = map i n is.json
-no_plain_node d slice sink map cache left_out tables (entry.MapFunction i (call.RowIndex name offset)) p is = cc
-no_plain_node d slice sink map cache left_out tables (entry.Sort i by cut options) p is = cc
-no_plain_node d slice sink map cache left_out tables (entry.Union inputs options) p is = cc
-no_plain_node d slice sink map cache left_out tables (entry.HConcat inputs) p is = cc
-no_plain_node d slice sink map cache left_out tables (entry.Cache i id hits) p is = cache i id hits is.json
-no_plain_node d slice sink map cache left_out tables (entry.GroupBy i keys aggs maintain options) p is = cc
-no_plain_node d slice sink map cache left_out tables (entry.Join l r left_on right_on args) p is = cc
-no_plain_node d slice sink map cache left_out tables (entry.Distinct i options) p is = cc
-no_plain_node d slice sink map cache left_out tables (entry.LeftOut w) p is = left_out w is.stands is.json
+module _ (tables : List Frame) (ds : List Data) where
+  -- a word, and what follows it
+  abbrev after : List ℕ → Data
+  after w = list (text w ∷ ds)
 
--- no node that has one input and holds a list
-pub no_listing_node : (d : Data) →
-    ((i : Node) (columns : List (List ℕ)) → d ≢ node_json 0 (entry.SimpleProjection i columns)) →
-    ((i : Node) (es : List ExprIR) → d ≢ node_json 0 (entry.Select i es)) →
-    ((i : Node) (es : List ExprIR) → d ≢ node_json 0 (entry.HStack i es)) →
-    ((i : Node) (by : List ExprIR) (cut : Cut) (options : SortMultipleOptions) → CutFits cut → d ≢ node_json 0 (entry.Sort i by cut options)) →
-    ((i : Node) (keys aggs : List ExprIR) (maintain : Bool) (options : GroupbyOptions) → CutFits options.slice → d ≢ node_json 0 (entry.GroupBy i keys aggs maintain options)) →
-    ((i : Node) (options : DistinctOptions) → CutFits options.slice → d ≢ node_json 0 (entry.Distinct i options)) →
-    (tables : List Frame) (e : IR) → IsTrue (is_listing_node e) → IsNode tables e d → ⊥
-no_listing_node d project select hstack sort group_by distinct tables (entry.DataFrameScan df columns) p is = cc
-no_listing_node d project select hstack sort group_by distinct tables (entry.SimpleProjection i columns) p is = project i columns is.json
-no_listing_node d project select hstack sort group_by distinct tables (entry.Select i es) p is = select i es is.json
-no_listing_node d project select hstack sort group_by distinct tables (entry.HStack i es) p is = hstack i es is.json
-no_listing_node d project select hstack sort group_by distinct tables (entry.Filter i predicate) p is = cc
-no_listing_node d project select hstack sort group_by distinct tables (entry.Slice i offset len) p is = cc
-no_listing_node d project select hstack sort group_by distinct tables (entry.Sink i payload) p is = cc
-no_listing_node d project select hstack sort group_by distinct tables (entry.MapFunction i (call.User n)) p is = cc
-no_listing_node d project select hstack sort group_by distinct tables (entry.MapFunction i (call.RowIndex name offset)) p is = cc
-no_listing_node d project select hstack sort group_by distinct tables (entry.Sort i by cut options) p is = sort i by cut options is.stands.1 is.json
-no_listing_node d project select hstack sort group_by distinct tables (entry.Union inputs options) p is = cc
-no_listing_node d project select hstack sort group_by distinct tables (entry.HConcat inputs) p is = cc
-no_listing_node d project select hstack sort group_by distinct tables (entry.Cache i id hits) p is = cc
-no_listing_node d project select hstack sort group_by distinct tables (entry.GroupBy i keys aggs maintain options) p is = group_by i keys aggs maintain options is.stands.2 is.json
-no_listing_node d project select hstack sort group_by distinct tables (entry.Join l r left_on right_on args) p is = cc
-no_listing_node d project select hstack sort group_by distinct tables (entry.Distinct i options) p is = distinct i options is.stands is.json
-no_listing_node d project select hstack sort group_by distinct tables (entry.LeftOut w) p is = cc
+  -- a node of this JSON is the one that the JSON tells
+  told : (w : List ℕ) (e : IR) → IsNode tables e (after w) → IsNode tables (node_in tables (after w)) (after w)
+  told w e is = subst (λ x. IsNode tables x (after w)) (sym (node-told tables e (after w) is)) is
 
--- no node that has several inputs, or holds a text or a key
-pub no_other_node : (d : Data) →
-    ((i : Node) (predicate : ExprIR) → d ≢ node_json 0 (entry.Filter i predicate)) →
-    ((i : Node) (name : List ℕ) (offset : Option ℕ) → OffsetFits offset → d ≢ function_json (entry_number i) (call.RowIndex name offset)) →
-    ((inputs : List Node) (options : UnionOptions) → CutFits options.slice → d ≢ node_json 0 (entry.Union inputs options)) →
-    ((inputs : List Node) → d ≢ node_json 0 (entry.HConcat inputs)) →
-    ((l r : Node) (left_on right_on : List ExprIR) (args : JoinArgs) → CutFits args.slice → d ≢ node_json 0 (entry.Join l r left_on right_on args)) →
-    (tables : List Frame) (e : IR) → IsTrue (is_other_node e) → IsNode tables e d → ⊥
-no_other_node d filter row_index union hconcat join tables (entry.DataFrameScan df columns) p is = cc
-no_other_node d filter row_index union hconcat join tables (entry.SimpleProjection i columns) p is = cc
-no_other_node d filter row_index union hconcat join tables (entry.Select i es) p is = cc
-no_other_node d filter row_index union hconcat join tables (entry.HStack i es) p is = cc
-no_other_node d filter row_index union hconcat join tables (entry.Filter i predicate) p is = filter i predicate is.json
-no_other_node d filter row_index union hconcat join tables (entry.Slice i offset len) p is = cc
-no_other_node d filter row_index union hconcat join tables (entry.Sink i payload) p is = cc
-no_other_node d filter row_index union hconcat join tables (entry.MapFunction i (call.User n)) p is = cc
-no_other_node d filter row_index union hconcat join tables (entry.MapFunction i (call.RowIndex name offset)) p is = row_index i name offset is.stands is.json
-no_other_node d filter row_index union hconcat join tables (entry.Sort i by cut options) p is = cc
-no_other_node d filter row_index union hconcat join tables (entry.Union inputs options) p is = union inputs options is.stands is.json
-no_other_node d filter row_index union hconcat join tables (entry.HConcat inputs) p is = hconcat inputs is.json
-no_other_node d filter row_index union hconcat join tables (entry.Cache i id hits) p is = cc
-no_other_node d filter row_index union hconcat join tables (entry.GroupBy i keys aggs maintain options) p is = cc
-no_other_node d filter row_index union hconcat join tables (entry.Join l r left_on right_on args) p is = join l r left_on right_on args is.stands.2 is.json
-no_other_node d filter row_index union hconcat join tables (entry.Distinct i options) p is = cc
-no_other_node d filter row_index union hconcat join tables (entry.LeftOut w) p is = cc
+  pub no_scan : ((table : ℕ) (df : Frame) (columns : Option (List (List ℕ))) → slice_get tables table ≡ Some df → after (codes "scan") ≢ node_json table (entry.DataFrameScan df columns)) → (e : IR) → IsNode tables e (after (codes "scan")) → ⊥
+  no_scan none e is = let t = told (codes "scan") e is in none t.table (unwrap_or (slice_get tables (number_in (part 0 ds))) no_frame) (names_in (part 1 ds)) t.stands t.json
 
--- no node
-pub no_node : (d : Data) (tables : List Frame) →
-    ((ts : List Frame) (e : IR) → IsTrue (is_plain_node e) → IsNode ts e d → ⊥) →
-    ((ts : List Frame) (e : IR) → IsTrue (is_listing_node e) → IsNode ts e d → ⊥) →
-    ((ts : List Frame) (e : IR) → IsTrue (is_other_node e) → IsNode ts e d → ⊥) →
-    ((table : ℕ) (df : Frame) (columns : Option (List (List ℕ))) → slice_get tables table ≡ Some df → d ≢ node_json table (entry.DataFrameScan df columns)) →
-    (e : IR) → IsNode tables e d → ⊥
-no_node d tables plain listing other scan (entry.DataFrameScan df columns) is = scan is.table df columns is.stands is.json
-no_node d tables plain listing other scan (entry.SimpleProjection i columns) is = listing tables (entry.SimpleProjection i columns) refl is
-no_node d tables plain listing other scan (entry.Select i es) is = listing tables (entry.Select i es) refl is
-no_node d tables plain listing other scan (entry.HStack i es) is = listing tables (entry.HStack i es) refl is
-no_node d tables plain listing other scan (entry.Filter i predicate) is = other tables (entry.Filter i predicate) refl is
-no_node d tables plain listing other scan (entry.Slice i offset len) is = plain tables (entry.Slice i offset len) refl is
-no_node d tables plain listing other scan (entry.Sink i payload) is = plain tables (entry.Sink i payload) refl is
-no_node d tables plain listing other scan (entry.MapFunction i (call.User n)) is = plain tables (entry.MapFunction i (call.User n)) refl is
-no_node d tables plain listing other scan (entry.MapFunction i (call.RowIndex name offset)) is = other tables (entry.MapFunction i (call.RowIndex name offset)) refl is
-no_node d tables plain listing other scan (entry.Sort i by cut options) is = listing tables (entry.Sort i by cut options) refl is
-no_node d tables plain listing other scan (entry.Union inputs options) is = other tables (entry.Union inputs options) refl is
-no_node d tables plain listing other scan (entry.HConcat inputs) is = other tables (entry.HConcat inputs) refl is
-no_node d tables plain listing other scan (entry.Cache i id hits) is = plain tables (entry.Cache i id hits) refl is
-no_node d tables plain listing other scan (entry.GroupBy i keys aggs maintain options) is = listing tables (entry.GroupBy i keys aggs maintain options) refl is
-no_node d tables plain listing other scan (entry.Join l r left_on right_on args) is = other tables (entry.Join l r left_on right_on args) refl is
-no_node d tables plain listing other scan (entry.Distinct i options) is = listing tables (entry.Distinct i options) refl is
-no_node d tables plain listing other scan (entry.LeftOut w) is = plain tables (entry.LeftOut w) refl is
+  pub no_project : ((i : Node) (columns : List (List ℕ)) → after (codes "project") ≢ node_json 0 (entry.SimpleProjection i columns)) → (e : IR) → IsNode tables e (after (codes "project")) → ⊥
+  no_project none e is = let t = told (codes "project") e is in none (entry_in (part 0 ds)) (list_in text_in (part 1 ds)) t.json
+
+  pub no_select : ((i : Node) (es : List ExprIR) → after (codes "select") ≢ node_json 0 (entry.Select i es)) → (e : IR) → IsNode tables e (after (codes "select")) → ⊥
+  no_select none e is = let t = told (codes "select") e is in none (entry_in (part 0 ds)) (list_in named_in (part 1 ds)) t.json
+
+  pub no_hstack : ((i : Node) (es : List ExprIR) → after (codes "hstack") ≢ node_json 0 (entry.HStack i es)) → (e : IR) → IsNode tables e (after (codes "hstack")) → ⊥
+  no_hstack none e is = let t = told (codes "hstack") e is in none (entry_in (part 0 ds)) (list_in named_in (part 1 ds)) t.json
+
+  pub no_filter : ((i : Node) (predicate : ExprIR) → after (codes "filter") ≢ node_json 0 (entry.Filter i predicate)) → (e : IR) → IsNode tables e (after (codes "filter")) → ⊥
+  no_filter none e is = let t = told (codes "filter") e is in none (entry_in (part 0 ds)) (key_in (part 1 ds)) t.json
+
+  pub no_slice : ((i : Node) (offset : ℤ) (len : ℕ) → FitsSigned w64 offset → after (codes "slice") ≢ node_json 0 (entry.Slice i offset len)) → (e : IR) → IsNode tables e (after (codes "slice")) → ⊥
+  no_slice none e is = let t = told (codes "slice") e is in none (entry_in (part 0 ds)) (whole_number_in (part 1 ds)) (number_in (part 2 ds)) t.stands t.json
+
+  pub no_row_index : ((i : Node) (name : List ℕ) (offset : Option ℕ) → OffsetFits offset → after (codes "row_index") ≢ function_json (entry_number i) (call.RowIndex name offset)) → (e : IR) → IsNode tables e (after (codes "row_index")) → ⊥
+  no_row_index none e is = let t = told (codes "row_index") e is in none (entry_in (part 0 ds)) (text_in (part 1 ds)) (option_in number_in (part 2 ds)) t.stands t.json
+
+  pub no_map : ((i : Node) (n : ℕ) → after (codes "map") ≢ function_json (entry_number i) (call.User n)) → (e : IR) → IsNode tables e (after (codes "map")) → ⊥
+  no_map none e is = let t = told (codes "map") e is in none (entry_in (part 0 ds)) (number_in (part 1 ds)) t.json
+
+  pub no_sort : ((i : Node) (by : List ExprIR) (cut : Cut) (options : SortMultipleOptions) → CutFits cut → after (codes "sort") ≢ node_json 0 (entry.Sort i by cut options)) → (e : IR) → IsNode tables e (after (codes "sort")) → ⊥
+  no_sort none e is = let t = told (codes "sort") e is in none (entry_in (part 0 ds)) (list_in key_in (part 1 ds)) (cut_in (part 4 ds)) (record { descending = list_in truth_in (part 2 ds); nulls_last = list_in truth_in (part 3 ds) }) t.stands.1 t.json
+
+  pub no_union : ((inputs : List Node) (options : UnionOptions) → CutFits options.slice → after (codes "union") ≢ node_json 0 (entry.Union inputs options)) → (e : IR) → IsNode tables e (after (codes "union")) → ⊥
+  no_union none e is = let t = told (codes "union") e is in none (list_in entry_in (part 0 ds)) (record { slice = cut_in (part 1 ds) }) t.stands t.json
+
+  pub no_hconcat : ((inputs : List Node) → after (codes "hconcat") ≢ node_json 0 (entry.HConcat inputs)) → (e : IR) → IsNode tables e (after (codes "hconcat")) → ⊥
+  no_hconcat none e is = let t = told (codes "hconcat") e is in none (list_in entry_in (part 0 ds)) t.json
+
+  pub no_cache : ((i : Node) (id hits : ℕ) → after (codes "cache") ≢ node_json 0 (entry.Cache i id hits)) → (e : IR) → IsNode tables e (after (codes "cache")) → ⊥
+  no_cache none e is = let t = told (codes "cache") e is in none (entry_in (part 0 ds)) (number_in (part 1 ds)) 0 t.json
+
+  pub no_group_by : ((i : Node) (keys aggs : List ExprIR) (maintain : Bool) (options : GroupbyOptions) → CutFits options.slice → after (codes "group_by") ≢ node_json 0 (entry.GroupBy i keys aggs maintain options)) → (e : IR) → IsNode tables e (after (codes "group_by")) → ⊥
+  no_group_by none e is = let t = told (codes "group_by") e is in none (entry_in (part 0 ds)) (list_in named_in (part 1 ds)) (list_in named_in (part 2 ds)) (truth_in (part 3 ds)) (record { slice = cut_in (part 4 ds) }) t.stands.2 t.json
+
+  pub no_join : ((l r : Node) (left_on right_on : List ExprIR) (args : JoinArgs) → CutFits args.slice → after (codes "join") ≢ node_json 0 (entry.Join l r left_on right_on args)) → (e : IR) → IsNode tables e (after (codes "join")) → ⊥
+  no_join none e is = let t = told (codes "join") e is in none (entry_in (part 0 ds)) (entry_in (part 1 ds)) (list_in key_in (part 3 ds)) (list_in key_in (part 4 ds)) (record { how = join_in (part 2 ds); suffix = option_in text_in (part 5 ds); join_nulls = truth_in (part 6 ds); validation = validation_in (part 7 ds); slice = cut_in (part 8 ds) }) t.stands.2 t.json
+
+  pub no_distinct : ((i : Node) (options : DistinctOptions) → CutFits options.slice → after (codes "distinct") ≢ node_json 0 (entry.Distinct i options)) → (e : IR) → IsNode tables e (after (codes "distinct")) → ⊥
+  no_distinct none e is = let t = told (codes "distinct") e is in none (entry_in (part 0 ds)) (record { subset = names_in (part 1 ds); maintain_order = truth_in (part 2 ds); keep_strategy = keep_in (part 3 ds); slice = cut_in (part 4 ds) }) t.stands t.json
+
+  pub no_left_out : ((w : What) → IsTrue (is_left_out_kind w) → after (codes "left_out") ≢ node_json 0 (entry.LeftOut w)) → (e : IR) → IsNode tables e (after (codes "left_out")) → ⊥
+  no_left_out none e is = let t = told (codes "left_out") e is in none (what_in (part 0 ds)) t.stands t.json
+
+  -- no node of another word
+  pub no_other : (w : List ℕ) →
+      w ≢ codes "scan" →
+      w ≢ codes "project" →
+      w ≢ codes "select" →
+      w ≢ codes "hstack" →
+      w ≢ codes "filter" →
+      w ≢ codes "slice" →
+      w ≢ codes "row_index" →
+      w ≢ codes "map" →
+      w ≢ codes "sort" →
+      w ≢ codes "union" →
+      w ≢ codes "hconcat" →
+      w ≢ codes "cache" →
+      w ≢ codes "group_by" →
+      w ≢ codes "join" →
+      w ≢ codes "distinct" →
+      w ≢ codes "left_out" →
+      ((i : Node) (payload : SinkType) → after w ≢ node_json 0 (entry.Sink i payload)) →
+      (e : IR) → IsNode tables e (after w) → ⊥
+  no_other w scan project select hstack filter slice row_index map sort union hconcat cache group_by join distinct left_out sink (entry.DataFrameScan df columns) is = scan (word_at is.json)
+  no_other w scan project select hstack filter slice row_index map sort union hconcat cache group_by join distinct left_out sink (entry.SimpleProjection i columns) is = project (word_at is.json)
+  no_other w scan project select hstack filter slice row_index map sort union hconcat cache group_by join distinct left_out sink (entry.Select i es) is = select (word_at is.json)
+  no_other w scan project select hstack filter slice row_index map sort union hconcat cache group_by join distinct left_out sink (entry.HStack i es) is = hstack (word_at is.json)
+  no_other w scan project select hstack filter slice row_index map sort union hconcat cache group_by join distinct left_out sink (entry.Filter i predicate) is = filter (word_at is.json)
+  no_other w scan project select hstack filter slice row_index map sort union hconcat cache group_by join distinct left_out sink (entry.Slice i offset len) is = slice (word_at is.json)
+  no_other w scan project select hstack filter slice row_index map sort union hconcat cache group_by join distinct left_out sink (entry.MapFunction i (call.RowIndex name offset)) is = row_index (word_at is.json)
+  no_other w scan project select hstack filter slice row_index map sort union hconcat cache group_by join distinct left_out sink (entry.MapFunction i (call.User n)) is = map (word_at is.json)
+  no_other w scan project select hstack filter slice row_index map sort union hconcat cache group_by join distinct left_out sink (entry.Sort i by cut options) is = sort (word_at is.json)
+  no_other w scan project select hstack filter slice row_index map sort union hconcat cache group_by join distinct left_out sink (entry.Union inputs options) is = union (word_at is.json)
+  no_other w scan project select hstack filter slice row_index map sort union hconcat cache group_by join distinct left_out sink (entry.HConcat inputs) is = hconcat (word_at is.json)
+  no_other w scan project select hstack filter slice row_index map sort union hconcat cache group_by join distinct left_out sink (entry.Cache i id hits) is = cache (word_at is.json)
+  no_other w scan project select hstack filter slice row_index map sort union hconcat cache group_by join distinct left_out sink (entry.GroupBy i keys aggs maintain options) is = group_by (word_at is.json)
+  no_other w scan project select hstack filter slice row_index map sort union hconcat cache group_by join distinct left_out sink (entry.Join l r left_on right_on args) is = join (word_at is.json)
+  no_other w scan project select hstack filter slice row_index map sort union hconcat cache group_by join distinct left_out sink (entry.Distinct i options) is = distinct (word_at is.json)
+  no_other w scan project select hstack filter slice row_index map sort union hconcat cache group_by join distinct left_out sink (entry.LeftOut what) is = left_out (word_at is.json)
+  no_other w scan project select hstack filter slice row_index map sort union hconcat cache group_by join distinct left_out sink (entry.Sink i payload) is = sink i payload is.json

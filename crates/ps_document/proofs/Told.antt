@@ -5,7 +5,8 @@ use Rattle.std.specs.List.{AllByRecursion, AllZip}
 use Rattle.std.proofs.lemmas.List.Elements.{recursion_from_All}
 use Rattle.std.specs.Str.{bytes_eq}
 use Rattle.serde_json.specs.Data.{Data, Num, array, boolean, float, negative, null, number, string, unsigned}
-use Rattle.pu_index.specs.declared.arena.Node.{Node}
+use Rattle.serde_json.specs.View.{items_of}
+use Rattle.pu_base.specs.declared.arena.Node.{Node}
 use Rattle.ps_frame.specs.declared.value.DataType.{DataType}
 use Rattle.ps_frame.specs.declared.value.DataType.TheVariants as kind
 use Rattle.ps_document.proofs.Lists.{elements_of, elements_of-items}
@@ -47,6 +48,14 @@ items_in _ = []
 -- the item at a place
 abbrev pub item_in : ℕ → Data → Data
 item_in i d = get_or (items_in d) i null
+
+-- a part behind the word of an entry
+abbrev pub part : ℕ → List Data → Data
+part i ds = get_or (elements_of (items_of ds)) i null
+
+-- equal entries have one word
+pub word_at : {d e : Data} → d ≡ e → text_in (item_in 0 d) ≡ text_in (item_in 0 e)
+word_at e = ap (λ d. text_in (item_in 0 d)) e
 
 abbrev pub list_in : {A : Type 0} → (Data → A) → Data → List A
 list_in f d = map f (items_in d)

@@ -2,23 +2,23 @@
 use Rattle.std.proofs.Common.{◌≡◌, ℕ, List, [], ◌∷◌, refl, ap, sym, ◌∙◌}
 use Rattle.std.specs.Prelude.{Bool, ℤ, Option, Some, None, All, codes, slice_get, unwrap_or}
 use Rattle.serde_json.specs.Data.{Data}
-use Rattle.pu_index.specs.declared.arena.Node.{Node}
+use Rattle.pu_base.specs.declared.arena.Node.{Node}
 use Rattle.ps_frame.specs.Tables.{Frame}
-use Rattle.ps_plan.specs.Steps.{Cut, Name}
-use Rattle.ps_plan.specs.declared.ir.ExprIR.{ExprIR}
-use Rattle.ps_plan.specs.declared.ir.FunctionIR.{FunctionIR}
-use Rattle.ps_plan.specs.declared.ir.FunctionIR.TheVariants as call
+use Rattle.ps_meaning.specs.Steps.{Cut, Name}
+use Rattle.ps_meaning.specs.declared.options.ExprIR.{ExprIR}
+use Rattle.ps_meaning.specs.declared.options.FunctionIR.{FunctionIR}
+use Rattle.ps_meaning.specs.declared.options.FunctionIR.TheVariants as call
 use Rattle.ps_plan.specs.declared.ir.IR.{IR}
 use Rattle.ps_plan.specs.declared.ir.IR.TheVariants as entry
-use Rattle.ps_plan.specs.declared.ir.JoinType.{JoinType}
-use Rattle.ps_plan.specs.declared.ir.JoinType.TheVariants as how
-use Rattle.ps_plan.specs.declared.ir.JoinValidation.{JoinValidation}
-use Rattle.ps_plan.specs.declared.ir.JoinValidation.TheVariants as validation
-use Rattle.ps_plan.specs.declared.ir.OutputName.TheVariants as output
-use Rattle.ps_plan.specs.declared.ir.SinkType.{SinkType}
-use Rattle.ps_plan.specs.declared.ir.SinkType.TheVariants as sink
-use Rattle.ps_plan.specs.declared.ir.UniqueKeepStrategy.{UniqueKeepStrategy}
-use Rattle.ps_plan.specs.declared.ir.UniqueKeepStrategy.TheVariants as keep
+use Rattle.ps_meaning.specs.declared.options.JoinType.{JoinType}
+use Rattle.ps_meaning.specs.declared.options.JoinType.TheVariants as how
+use Rattle.ps_meaning.specs.declared.options.JoinValidation.{JoinValidation}
+use Rattle.ps_meaning.specs.declared.options.JoinValidation.TheVariants as validation
+use Rattle.ps_meaning.specs.declared.options.OutputName.TheVariants as output
+use Rattle.ps_meaning.specs.declared.options.SinkType.{SinkType}
+use Rattle.ps_meaning.specs.declared.options.SinkType.TheVariants as sink
+use Rattle.ps_meaning.specs.declared.options.UniqueKeepStrategy.{UniqueKeepStrategy}
+use Rattle.ps_meaning.specs.declared.options.UniqueKeepStrategy.TheVariants as keep
 use Rattle.ps_document.proofs.Told.{entry_in, item_in, list-told, list-told_where, list_in, look_up, number_in, option-told, option_in, text_in, truth_in, whole_number-told, whole_number_in}
 use Rattle.ps_document.proofs.ToldExpr.{what-told, what_in}
 use Rattle.ps_document.specs.Expressions.{entry_number}
@@ -26,31 +26,31 @@ use Rattle.ps_document.specs.Json.{count, list_of, or_null, text, truth}
 use Rattle.ps_document.specs.Nodes.{CanStand, IsNamed, IsNode, IsUnnamed, cut_json, function_json, key_json, named_json, names_json, node_json}
 use Rattle.ps_document.specs.Words.{join_word, keep_word, validation_word}
 
-abbrev named_in : Data → ExprIR
+abbrev pub named_in : Data → ExprIR
 named_in d = record { node = entry_in (item_in 1 d); output_name = output.Alias (text_in (item_in 0 d)) }
 
-abbrev key_in : Data → ExprIR
+abbrev pub key_in : Data → ExprIR
 key_in d = record { node = entry_in d; output_name = output.ColumnLhs [] }
 
 abbrev offset_and_length_in : Data → ℤ × ℕ
 offset_and_length_in d = (whole_number_in (item_in 0 d), number_in (item_in 1 d))
 
-abbrev cut_in : Data → Cut
+abbrev pub cut_in : Data → Cut
 cut_in d = option_in offset_and_length_in d
 
-abbrev names_in : Data → Option (List Name)
+abbrev pub names_in : Data → Option (List Name)
 names_in d = option_in (list_in text_in) d
 
-abbrev join_in : Data → JoinType
+abbrev pub join_in : Data → JoinType
 join_in d =
     look_up (text_in d)
     ((codes "inner", how.Inner) ∷ (codes "left", how.Left) ∷ (codes "right", how.Right) ∷ (codes "full", how.Full) ∷ (codes "semi", how.Semi) ∷ (codes "anti", how.Anti) ∷ [])
     how.Cross
 
-abbrev validation_in : Data → JoinValidation
+abbrev pub validation_in : Data → JoinValidation
 validation_in d = look_up (text_in d) ((codes "m:m", validation.ManyToMany) ∷ (codes "m:1", validation.ManyToOne) ∷ (codes "1:m", validation.OneToMany) ∷ []) validation.OneToOne
 
-abbrev keep_in : Data → UniqueKeepStrategy
+abbrev pub keep_in : Data → UniqueKeepStrategy
 keep_in d = look_up (text_in d) ((codes "first", keep.First) ∷ (codes "last", keep.Last) ∷ (codes "any", keep.Any) ∷ []) keep.None
 
 named-told : (e : ExprIR) → IsNamed e → named_in (named_json e) ≡ e
@@ -106,7 +106,7 @@ entry-list ns = list-told entry_number entry_in (λ n. refl) ns
 truth-list : (bs : List Bool) → list_in truth_in (list_of truth bs) ≡ bs
 truth-list bs = list-told truth truth_in (λ b. refl) bs
 
-abbrev no_frame : Frame
+abbrev pub no_frame : Frame
 no_frame = record { schema = []; rows = [] }
 
 module _ (tables : List Frame) where

@@ -8,7 +8,7 @@ use Rattle.ps_frame.proofs.Lists.{both}
 use Rattle.ps_frame.specs.Frames.{column_values, frame_of, kinds_of}
 use Rattle.ps_frame.specs.Lawful.{FitsKinds}
 use Rattle.ps_frame.specs.Tables.{Fields, Frame, beside, rows_of, values_at}
-use Rattle.ps_frame.specs.Typed.{all_fit}
+use Rattle.ps_frame.specs.Series.{all_fit}
 use Rattle.ps_frame.specs.Values.{fits_kind}
 use Rattle.ps_frame.specs.declared.value.DataType.{DataType}
 use Rattle.ps_frame.specs.declared.value.DataType.TheVariants as kind

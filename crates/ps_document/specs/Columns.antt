@@ -3,7 +3,7 @@ use Rattle.std.specs.Prelude.{ℕ, ◌≡◌, List, IsTrue, map}
 use Rattle.std.specs.List.{AllByRecursion}
 use Rattle.serde_json.specs.Data.{Data}
 use Rattle.ps_frame.specs.Tables.{Fields}
-use Rattle.ps_frame.specs.Typed.{Typed, all_fit}
+use Rattle.ps_frame.specs.Series.{Series, all_fit}
 use Rattle.ps_frame.specs.declared.value.DataType.{DataType}
 use Rattle.ps_document.specs.Tables.{FitsItsWidth, column_json}
 use Rattle.ps_document.specs.declared.tables.NamedColumn.{NamedColumn}
@@ -15,7 +15,7 @@ field_of c = (c.name, c.column.kind)
 abbrev pub fields_of : List NamedColumn → Fields
 fields_of cs = map field_of cs
 
-abbrev pub typed_of : List NamedColumn → List Typed
+abbrev pub typed_of : List NamedColumn → List Series
 typed_of cs = map (λ (c : NamedColumn). c.column) cs
 
 abbrev pub named_column_json : NamedColumn → Data

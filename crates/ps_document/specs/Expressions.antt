@@ -2,7 +2,7 @@
 use Rattle.std.specs.Prelude.{◌≡◌, ◌<◌, ◌^◌, [], ◌∷◌, codes, IsTrue, FitsSigned, ⊤}
 use Rattle.std.specs.Int.{w64}
 use Rattle.serde_json.specs.Data.{Data}
-use Rattle.pu_index.specs.declared.arena.Node.{Node}
+use Rattle.pu_base.specs.declared.arena.Node.{Node}
 use Rattle.ps_frame.specs.Lines.{what_name}
 use Rattle.ps_frame.specs.declared.expr.AExpr.{AExpr}
 use Rattle.ps_frame.specs.declared.expr.AExpr.TheVariants as expr

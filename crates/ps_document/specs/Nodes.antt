@@ -4,13 +4,13 @@ use Rattle.std.specs.Int.{w64}
 use Rattle.serde_json.specs.Data.{Data}
 use Rattle.ps_frame.specs.Lines.{what_name}
 use Rattle.ps_frame.specs.Tables.{Frame}
-use Rattle.ps_plan.specs.Steps.{Cut, Name, name_in}
-use Rattle.ps_plan.specs.declared.ir.ExprIR.{ExprIR}
+use Rattle.ps_meaning.specs.Steps.{Cut, Name, name_in}
+use Rattle.ps_meaning.specs.declared.options.ExprIR.{ExprIR}
 use Rattle.ps_plan.specs.declared.ir.IR.{IR}
 use Rattle.ps_plan.specs.declared.ir.IR.TheVariants as entry
-use Rattle.ps_plan.specs.declared.ir.FunctionIR.{FunctionIR}
-use Rattle.ps_plan.specs.declared.ir.FunctionIR.TheVariants as call
-use Rattle.ps_plan.specs.declared.ir.OutputName.TheVariants as output
+use Rattle.ps_meaning.specs.declared.options.FunctionIR.{FunctionIR}
+use Rattle.ps_meaning.specs.declared.options.FunctionIR.TheVariants as call
+use Rattle.ps_meaning.specs.declared.options.OutputName.TheVariants as output
 use Rattle.ps_document.specs.Expressions.{entry_number}
 use Rattle.ps_document.specs.Json.{count, list, list_of, or_null, text, truth, whole_number}
 use Rattle.ps_document.specs.Words.{is_left_out_kind, join_word, keep_word, sink_word, validation_word}

@@ -8,14 +8,14 @@ use Rattle.ps_frame.specs.declared.expr.What.{What}
 use Rattle.ps_frame.specs.declared.expr.What.TheVariants as what
 use Rattle.ps_frame.specs.declared.value.DataType.{DataType}
 use Rattle.ps_frame.specs.declared.value.DataType.TheVariants as kind
-use Rattle.ps_plan.specs.declared.ir.JoinType.{JoinType}
-use Rattle.ps_plan.specs.declared.ir.JoinType.TheVariants as how
-use Rattle.ps_plan.specs.declared.ir.JoinValidation.{JoinValidation}
-use Rattle.ps_plan.specs.declared.ir.JoinValidation.TheVariants as validation
-use Rattle.ps_plan.specs.declared.ir.SinkType.{SinkType}
-use Rattle.ps_plan.specs.declared.ir.SinkType.TheVariants as sink
-use Rattle.ps_plan.specs.declared.ir.UniqueKeepStrategy.{UniqueKeepStrategy}
-use Rattle.ps_plan.specs.declared.ir.UniqueKeepStrategy.TheVariants as keep
+use Rattle.ps_meaning.specs.declared.options.JoinType.{JoinType}
+use Rattle.ps_meaning.specs.declared.options.JoinType.TheVariants as how
+use Rattle.ps_meaning.specs.declared.options.JoinValidation.{JoinValidation}
+use Rattle.ps_meaning.specs.declared.options.JoinValidation.TheVariants as validation
+use Rattle.ps_meaning.specs.declared.options.SinkType.{SinkType}
+use Rattle.ps_meaning.specs.declared.options.SinkType.TheVariants as sink
+use Rattle.ps_meaning.specs.declared.options.UniqueKeepStrategy.{UniqueKeepStrategy}
+use Rattle.ps_meaning.specs.declared.options.UniqueKeepStrategy.TheVariants as keep
 
 abbrev pub kind_word : DataType → List ℕ
 kind_word kind.Boolean = codes "bool"

@@ -19,12 +19,12 @@ use ps_frame::frame::DataFrame;
 use ps_frame::value::{DataType, Value};
 use ps_reading::list::{ReadJson, read_list};
 use ps_reading::numbers::{count_of, whole_number_of};
-use pu_order::PlSmallStr;
+use pu_base::PlSmallStr;
 use std::alloc::{AllocError, Global};
 
 /// The columns of a table, and the tables.
 #[derive(Drop)]
-pub struct Tables;
+pub struct ByToken;
 
 /// The cell that is one token, in a column of a kind.
 ///
@@ -35,6 +35,7 @@ fn cell_of(alloc: Global, dtype: DataType, token: Token<'_>) -> Result<Option<Va
     match token {
         Token::Null => Ok(Some(Value::Null)),
         Token::Number(text) => {
+            // By `let`-`else`, so that the proof cites the value by its name.
             let Some(cell) = number_cell(dtype, text) else {
                 return Ok(None);
             };
@@ -50,6 +51,7 @@ fn cell_of(alloc: Global, dtype: DataType, token: Token<'_>) -> Result<Option<Va
             let DataType::String = dtype else {
                 return Ok(None);
             };
+            // The only error is want of memory; `map_err` would hide the value in a closure.
             match PlSmallStr::from_str(alloc, text) {
                 Ok(text) => Ok(Some(Value::String(text))),
                 Err(_) => Err(AllocError),
@@ -102,6 +104,7 @@ fn read_cell(
     let Some(token) = reader.next() else {
         return Ok(None);
     };
+    // By `let`-`else`, so that the proof cites the value by its name.
     let Some(cell) = cell_of(alloc, dtype, token)? else {
         return Ok(None);
     };
@@ -123,6 +126,7 @@ fn read_column(
     let Some(Token::BeginArray) = reader.next() else {
         return Ok(None);
     };
+    // By `let`-`else`, so that the proof cites the value by its name.
     let Some(column) = read_cells(alloc, dtype, reader)? else {
         return Ok(None);
     };
@@ -143,11 +147,13 @@ fn read_cells(
         let Some(cell) = read_cell(alloc, dtype, reader)? else {
             return Ok(None);
         };
+        // Each value is of the kind, so the only error is want of memory.
         match builder.push(alloc, cell) {
             Ok(()) => {}
             Err(_) => return Err(AllocError),
         }
     }
+    // The only error is want of memory; `map_err` would hide the value in a closure.
     match builder.finish(alloc) {
         Ok(column) => Ok(Some(column)),
         Err(_) => Err(AllocError),
@@ -175,13 +181,14 @@ fn heading_of(
     let Some(dtype) = kind_of(word) else {
         return Ok(None);
     };
+    // The only error is want of memory; `map_err` would hide the value in a closure.
     match PlSmallStr::from_str(alloc, name) {
         Ok(name) => Ok(Some((name, dtype))),
         Err(_) => Err(AllocError),
     }
 }
 
-impl ReadJson<Tables> for NamedColumn {
+impl ReadJson<ByToken> for NamedColumn {
     ghost use Rattle.ps_document.specs.Columns.{IsColumn};
 
     ghost is_json = { λ _ c d. IsColumn c d };
@@ -190,7 +197,7 @@ impl ReadJson<Tables> for NamedColumn {
 
     fn read_json(
         alloc: Global,
-        _context: &Tables,
+        _context: &ByToken,
         reader: &mut Reader<'_>,
     ) -> Result<Option<NamedColumn>, AllocError> {
         let Some((name, dtype)) = heading_of(alloc, reader)? else {
@@ -206,7 +213,7 @@ impl ReadJson<Tables> for NamedColumn {
     }
 }
 
-impl ReadJson<Tables> for DataFrame {
+impl ReadJson<ByToken> for DataFrame {
     ghost use Rattle.ps_document.specs.Tables.{IsTable};
 
     ghost is_json = { λ _ f d. IsTable f d };
@@ -215,12 +222,13 @@ impl ReadJson<Tables> for DataFrame {
 
     fn read_json(
         alloc: Global,
-        context: &Tables,
+        context: &ByToken,
         reader: &mut Reader<'_>,
     ) -> Result<Option<DataFrame>, AllocError> {
-        let Some(columns) = read_list::<Tables, NamedColumn>(alloc, context, reader)? else {
+        let Some(columns) = read_list::<ByToken, NamedColumn>(alloc, context, reader)? else {
             return Ok(None);
         };
+        // By `let`-`else`, so that the proof cites the value by its name.
         let Some(df) = table_of(alloc, columns)? else {
             return Ok(None);
         };

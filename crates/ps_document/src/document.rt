@@ -16,7 +16,7 @@ use crate::values::entry_of;
 use ps_frame::expr::AExpr;
 use ps_frame::frame::DataFrame;
 use ps_plan::ir::IR;
-use pu_index::{Arena, Node};
+use pu_base::{Arena, Node};
 use serde_json::{Map, Value};
 use std::alloc::{AllocError, Global};
 
@@ -118,6 +118,7 @@ fn plan_of(alloc: Global, members: Members) -> Result<Option<Document>, AllocErr
     let Some(tables) = take_list::<(), DataFrame>(alloc, &(), tables)? else {
         return Ok(None);
     };
+    // By `let`-`else`, so that the proof cites the value by its name.
     let Some(document) = plan_over(alloc, tables, exprs, nodes, root)? else {
         return Ok(None);
     };
@@ -154,10 +155,12 @@ pub(crate) fn plan_over(
 fn arena_of<T: Drop>(alloc: Global, items: Vec<T>) -> Result<Arena<T>, AllocError>
     ensures { IfOk result (λ arena. arena.items ≡ items.items) }
 {
+    // The only error is want of memory; it is told anew here.
     let Ok(mut arena) = Arena::with_capacity(alloc, items.len()) else {
         return Err(AllocError);
     };
     for item in items {
+        // The only error is want of memory; it is told anew here.
         let Ok(_) = arena.add(item) else {
             return Err(AllocError);
         };

@@ -1,56 +1,43 @@
 // The expressions of a document.
-ghost use Rattle.std.specs.Prelude.{◌≡◌, ◌≢◌, ◌<◌, ◌^◌, ◌∷◌, [], ℕ, ℤ, Bool, List, IsTrue, IfOk, IfSome, IfNone, codes, FitsSigned};
+ghost use Rattle.std.specs.Prelude.{◌≡◌, ◌≢◌, ◌<◌, ◌^◌, ◌∷◌, [], ℕ, ℤ, Bool, List, IsTrue, IfOk, IfSome, IfNone, codes, map, FitsSigned};
 ghost use Rattle.std.specs.Int.{w64};
-ghost use Rattle.serde_json.specs.Data.{Data};
 ghost use Rattle.serde_json.specs.View.{view};
 ghost use Rattle.ps_frame.specs.declared.expr.AExpr.TheVariants as expr;
 ghost use Rattle.ps_frame.specs.declared.expr.IRAggExpr.TheVariants as agg;
 ghost use Rattle.ps_frame.specs.declared.expr.LiteralValue.TheVariants as lit;
-ghost use Rattle.ps_document.specs.Expressions.{CanStand, IsExpr, aggregate_json, entry_number, expr_json, literal_json};
+ghost use Rattle.ps_document.specs.Expressions.{CanStand, IsExpr, aggregate_json, entry_number, expr_json};
 ghost use Rattle.ps_document.specs.Json.{list, text};
-ghost use Rattle.ps_document.specs.Owning.{is_plain};
+ghost use Rattle.ps_document.specs.Words.{is_left_out_kind};
 
 use crate::parts::{FromJson, Plain, left_out_of, list_from};
 use crate::taking::TakeJson;
 use crate::values::{
-    entry_of, four_after, is_text, one, one_after, short_number_of, text_of, three, three_after,
-    truth_of, two, two_after, whole_number_of,
+    entry_of, four, one, short_number_of, text_of, three, truth_of, two, whole_number_of,
+    word_and_parts,
 };
 use crate::words::{function_of, kind_of, operator_of};
 use ps_frame::expr::{AExpr, FunctionExpr, IRAggExpr, LiteralValue, Operator, What};
 use ps_frame::value::DataType;
-use pu_index::Node;
-use pu_order::PlSmallStr;
+use pu_base::{Node, PlSmallStr};
 use serde_json::Value;
 use std::alloc::{AllocError, Global};
 
-fn len_of(value: &Value) -> Option<AExpr>
-    ensures some { IfSome result (λ e. IsExpr e (view value.now)) }
-    ensures none { IfNone result (view value.now ≢ expr_json expr.Len) }
+fn len_of(parts: &[Value]) -> Option<AExpr>
+    ensures some { IfSome result (λ e. IsExpr e (list (text (codes "len") ∷ map view parts.now))) }
+    ensures none { IfNone result (list (text (codes "len") ∷ map view parts.now) ≢ expr_json expr.Len) }
 {
-    match one(value) {
-        Some(word) if is_text(word, "len") => Some(AExpr::Len),
-        _ => None,
+    if parts.is_empty() {
+        Some(AExpr::Len)
+    } else {
+        None
     }
 }
 
-fn binary_of(value: &Value) -> Option<AExpr>
-    ensures some { IfSome result (λ e. IsExpr e (view value.now)) }
-    ensures none { IfNone result ((l : Node) (o : Operator) (r : Node) → view value.now ≢ expr_json (expr.BinaryExpr l o r)) }
+fn cast_of(parts: &[Value]) -> Option<AExpr>
+    ensures some { IfSome result (λ e. IsExpr e (list (text (codes "cast") ∷ map view parts.now))) }
+    ensures none { IfNone result ((e : Node) (k : DataType) (strict : Bool) → list (text (codes "cast") ∷ map view parts.now) ≢ expr_json (expr.Cast e k strict)) }
 {
-    let (word, left, right) = three(value)?;
-    Some(AExpr::BinaryExpr {
-        left: entry_of(left)?,
-        op: operator_of(text_of(word)?)?,
-        right: entry_of(right)?,
-    })
-}
-
-fn cast_of(value: &Value) -> Option<AExpr>
-    ensures some { IfSome result (λ e. IsExpr e (view value.now)) }
-    ensures none { IfNone result ((e : Node) (k : DataType) (strict : Bool) → view value.now ≢ expr_json (expr.Cast e k strict)) }
-{
-    let (expr, dtype, strict) = three_after(value, "cast")?;
+    let (expr, dtype, strict) = three(parts)?;
     Some(AExpr::Cast {
         expr: entry_of(expr)?,
         dtype: kind_of(text_of(dtype)?)?,
@@ -58,11 +45,11 @@ fn cast_of(value: &Value) -> Option<AExpr>
     })
 }
 
-fn sort_of(value: &Value) -> Option<AExpr>
-    ensures some { IfSome result (λ e. IsExpr e (view value.now)) }
-    ensures none { IfNone result ((e : Node) (descending nulls_last : Bool) → view value.now ≢ expr_json (expr.Sort e descending nulls_last)) }
+fn sort_of(parts: &[Value]) -> Option<AExpr>
+    ensures some { IfSome result (λ e. IsExpr e (list (text (codes "sort") ∷ map view parts.now))) }
+    ensures none { IfNone result ((e : Node) (descending nulls_last : Bool) → list (text (codes "sort") ∷ map view parts.now) ≢ expr_json (expr.Sort e descending nulls_last)) }
 {
-    let (expr, descending, nulls_last) = three_after(value, "sort")?;
+    let (expr, descending, nulls_last) = three(parts)?;
     Some(AExpr::Sort {
         expr: entry_of(expr)?,
         descending: truth_of(descending)?,
@@ -70,11 +57,11 @@ fn sort_of(value: &Value) -> Option<AExpr>
     })
 }
 
-fn gather_of(value: &Value) -> Option<AExpr>
-    ensures some { IfSome result (λ e. IsExpr e (view value.now)) }
-    ensures none { IfNone result ((e i : Node) (scalar : Bool) → view value.now ≢ expr_json (expr.Gather e i scalar)) }
+fn gather_of(parts: &[Value]) -> Option<AExpr>
+    ensures some { IfSome result (λ e. IsExpr e (list (text (codes "gather") ∷ map view parts.now))) }
+    ensures none { IfNone result ((e i : Node) (scalar : Bool) → list (text (codes "gather") ∷ map view parts.now) ≢ expr_json (expr.Gather e i scalar)) }
 {
-    let (expr, idx, returns_scalar) = three_after(value, "gather")?;
+    let (expr, idx, returns_scalar) = three(parts)?;
     Some(AExpr::Gather {
         expr: entry_of(expr)?,
         idx: entry_of(idx)?,
@@ -82,22 +69,22 @@ fn gather_of(value: &Value) -> Option<AExpr>
     })
 }
 
-fn filter_of(value: &Value) -> Option<AExpr>
-    ensures some { IfSome result (λ e. IsExpr e (view value.now)) }
-    ensures none { IfNone result ((e by : Node) → view value.now ≢ expr_json (expr.Filter e by)) }
+fn filter_of(parts: &[Value]) -> Option<AExpr>
+    ensures some { IfSome result (λ e. IsExpr e (list (text (codes "filter") ∷ map view parts.now))) }
+    ensures none { IfNone result ((e by : Node) → list (text (codes "filter") ∷ map view parts.now) ≢ expr_json (expr.Filter e by)) }
 {
-    let (input, by) = two_after(value, "filter")?;
+    let (input, by) = two(parts)?;
     Some(AExpr::Filter {
         input: entry_of(input)?,
         by: entry_of(by)?,
     })
 }
 
-fn slice_of(value: &Value) -> Option<AExpr>
-    ensures some { IfSome result (λ e. IsExpr e (view value.now)) }
-    ensures none { IfNone result ((e o l : Node) → view value.now ≢ expr_json (expr.Slice e o l)) }
+fn slice_of(parts: &[Value]) -> Option<AExpr>
+    ensures some { IfSome result (λ e. IsExpr e (list (text (codes "slice") ∷ map view parts.now))) }
+    ensures none { IfNone result ((e o l : Node) → list (text (codes "slice") ∷ map view parts.now) ≢ expr_json (expr.Slice e o l)) }
 {
-    let (input, offset, length) = three_after(value, "slice")?;
+    let (input, offset, length) = three(parts)?;
     Some(AExpr::Slice {
         input: entry_of(input)?,
         offset: entry_of(offset)?,
@@ -105,11 +92,11 @@ fn slice_of(value: &Value) -> Option<AExpr>
     })
 }
 
-fn ternary_of(value: &Value) -> Option<AExpr>
-    ensures some { IfSome result (λ e. IsExpr e (view value.now)) }
-    ensures none { IfNone result ((p a b : Node) → view value.now ≢ expr_json (expr.Ternary p a b)) }
+fn ternary_of(parts: &[Value]) -> Option<AExpr>
+    ensures some { IfSome result (λ e. IsExpr e (list (text (codes "ternary") ∷ map view parts.now))) }
+    ensures none { IfNone result ((p a b : Node) → list (text (codes "ternary") ∷ map view parts.now) ≢ expr_json (expr.Ternary p a b)) }
 {
-    let (predicate, truthy, falsy) = three_after(value, "ternary")?;
+    let (predicate, truthy, falsy) = three(parts)?;
     Some(AExpr::Ternary {
         predicate: entry_of(predicate)?,
         truthy: entry_of(truthy)?,
@@ -117,19 +104,8 @@ fn ternary_of(value: &Value) -> Option<AExpr>
     })
 }
 
-fn function_call_of(value: &Value) -> Option<AExpr>
-    ensures some { IfSome result (λ e. IsExpr e (view value.now)) }
-    ensures none { IfNone result ((e : Node) (g : FunctionExpr) → view value.now ≢ expr_json (expr.Function e g)) }
-{
-    let (word, input) = two(value)?;
-    Some(AExpr::Function {
-        input: entry_of(input)?,
-        function: function_of(text_of(word)?)?,
-    })
-}
-
 /// The aggregate of a word and an operand.
-fn simple_aggregate(word: &str, input: Node) -> Option<IRAggExpr>
+fn aggregate_of(word: &str, input: Node) -> Option<IRAggExpr>
     ensures some { IfSome result (λ a. list (text word.now ∷ entry_number input ∷ []) ≡ aggregate_json a) }
     ensures none { IfNone result ((a : IRAggExpr) → list (text word.now ∷ entry_number input ∷ []) ≢ aggregate_json a) }
 {
@@ -144,110 +120,103 @@ fn simple_aggregate(word: &str, input: Node) -> Option<IRAggExpr>
     }
 }
 
-fn count_of(value: &Value) -> Option<IRAggExpr>
-    ensures some { IfSome result (λ a. view value.now ≡ aggregate_json a) }
-    ensures none { IfNone result ((n : Node) (all : Bool) → view value.now ≢ aggregate_json (agg.Count n all)) }
+fn count_of(parts: &[Value]) -> Option<AExpr>
+    ensures some { IfSome result (λ e. IsExpr e (list (text (codes "count") ∷ map view parts.now))) }
+    ensures none { IfNone result ((n : Node) (all : Bool) → list (text (codes "count") ∷ map view parts.now) ≢ expr_json (expr.Agg (agg.Count n all))) }
 {
-    let (input, all) = two_after(value, "count")?;
-    Some(IRAggExpr::Count(entry_of(input)?, truth_of(all)?))
+    let (input, all) = two(parts)?;
+    Some(AExpr::Agg(IRAggExpr::Count(entry_of(input)?, truth_of(all)?)))
 }
 
-fn simple_aggregate_of(value: &Value) -> Option<IRAggExpr>
-    ensures some { IfSome result (λ a. view value.now ≡ aggregate_json a) }
-    ensures none { IfNone result ((w : List ℕ) (n : Node) (a : IRAggExpr) → aggregate_json a ≡ list (text w ∷ entry_number n ∷ []) → view value.now ≢ aggregate_json a) }
+/// The expression that a word makes of one operand, by a function or an aggregate.
+fn unary_of(word: &str, input: Node) -> Option<AExpr>
+    ensures some { IfSome result (λ e. IsExpr e (list (text word.now ∷ entry_number input ∷ []))) }
+    ensures no_function { IfNone result ((g : FunctionExpr) → list (text word.now ∷ entry_number input ∷ []) ≢ expr_json (expr.Function input g)) }
+    ensures no_aggregate { IfNone result ((a : IRAggExpr) → list (text word.now ∷ entry_number input ∷ []) ≢ aggregate_json a) }
 {
-    let (word, input) = two(value)?;
-    simple_aggregate(text_of(word)?, entry_of(input)?)
-}
-
-fn aggregate_of(value: &Value) -> Option<AExpr>
-    ensures some { IfSome result (λ e. IsExpr e (view value.now)) }
-    ensures none { IfNone result ((a : IRAggExpr) → view value.now ≢ expr_json (expr.Agg a)) }
-{
-    if let Some(count) = count_of(value) {
-        return Some(AExpr::Agg(count));
+    if let Some(function) = function_of(word) {
+        return Some(AExpr::Function { input, function });
     }
-    simple_aggregate_of(value).map(AExpr::Agg)
+    aggregate_of(word, input).map(AExpr::Agg)
 }
 
-fn null_of(value: &Value) -> Option<LiteralValue>
-    ensures some { IfSome result (λ l. IsExpr (expr.Literal l) (view value.now)) }
-    ensures none { IfNone result ((k : DataType) → view value.now ≢ literal_json (lit.Null k)) }
+/// The expression that a word makes of its operands, by a function, an aggregate or an operator.
+fn operation_of(word: &str, operands: &[Value]) -> Option<AExpr>
+    ensures some { IfSome result (λ e. IsExpr e (list (text word.now ∷ map view operands.now))) }
+    ensures no_binary { IfNone result ((l : Node) (o : Operator) (r : Node) → list (text word.now ∷ map view operands.now) ≢ expr_json (expr.BinaryExpr l o r)) }
+    ensures no_function { IfNone result ((n : Node) (g : FunctionExpr) → list (text word.now ∷ map view operands.now) ≢ expr_json (expr.Function n g)) }
+    ensures no_aggregate { IfNone result ((n : Node) (a : IRAggExpr) → aggregate_json a ≡ list (text word.now ∷ entry_number n ∷ []) → list (text word.now ∷ map view operands.now) ≢ aggregate_json a) }
 {
-    let kind = one_after(value, "null")?;
-    Some(LiteralValue::Null(kind_of(text_of(kind)?)?))
+    if let Some(input) = one(operands) {
+        return unary_of(word, entry_of(input)?);
+    }
+    let (left, right) = two(operands)?;
+    Some(AExpr::BinaryExpr {
+        left: entry_of(left)?,
+        op: operator_of(word)?,
+        right: entry_of(right)?,
+    })
 }
 
-fn truth_literal_of(value: &Value) -> Option<LiteralValue>
-    ensures some { IfSome result (λ l. IsExpr (expr.Literal l) (view value.now)) }
-    ensures none { IfNone result ((b : Bool) → view value.now ≢ literal_json (lit.Boolean b)) }
+fn null_of(parts: &[Value]) -> Option<AExpr>
+    ensures some { IfSome result (λ e. IsExpr e (list (text (codes "null") ∷ map view parts.now))) }
+    ensures none { IfNone result ((k : DataType) → list (text (codes "null") ∷ map view parts.now) ≢ expr_json (expr.Literal (lit.Null k))) }
 {
-    let truth = one_after(value, "bool")?;
-    Some(LiteralValue::Boolean(truth_of(truth)?))
+    let kind = one(parts)?;
+    Some(AExpr::Literal(LiteralValue::Null(kind_of(text_of(kind)?)?)))
 }
 
-fn int_of(value: &Value) -> Option<LiteralValue>
-    ensures some { IfSome result (λ l. IsExpr (expr.Literal l) (view value.now)) }
-    ensures none { IfNone result ((z : ℤ) → FitsSigned w64 z → view value.now ≢ literal_json (lit.Int64 z)) }
+fn truth_literal_of(parts: &[Value]) -> Option<AExpr>
+    ensures some { IfSome result (λ e. IsExpr e (list (text (codes "bool") ∷ map view parts.now))) }
+    ensures none { IfNone result ((b : Bool) → list (text (codes "bool") ∷ map view parts.now) ≢ expr_json (expr.Literal (lit.Boolean b))) }
 {
-    let number = one_after(value, "int")?;
-    Some(LiteralValue::Int64(whole_number_of(number)?))
+    let truth = one(parts)?;
+    Some(AExpr::Literal(LiteralValue::Boolean(truth_of(truth)?)))
 }
 
-fn idx_of(value: &Value) -> Option<LiteralValue>
-    ensures some { IfSome result (λ l. IsExpr (expr.Literal l) (view value.now)) }
-    ensures none { IfNone result ((n : ℕ) → n < 2 ^ 32 → view value.now ≢ literal_json (lit.IdxSize n)) }
+fn int_of(parts: &[Value]) -> Option<AExpr>
+    ensures some { IfSome result (λ e. IsExpr e (list (text (codes "int") ∷ map view parts.now))) }
+    ensures none { IfNone result ((z : ℤ) → FitsSigned w64 z → list (text (codes "int") ∷ map view parts.now) ≢ expr_json (expr.Literal (lit.Int64 z))) }
 {
-    let number = one_after(value, "idx")?;
-    Some(LiteralValue::IdxSize(short_number_of(number)?))
+    let number = one(parts)?;
+    Some(AExpr::Literal(LiteralValue::Int64(whole_number_of(number)?)))
 }
 
-fn string_of(alloc: Global, value: &Value) -> Result<Option<LiteralValue>, AllocError>
-    ensures some { IfOk result (λ o. IfSome o (λ l. IsExpr (expr.Literal l) (view value.now))) }
-    ensures none { IfOk result (λ o. IfNone o ((s : List ℕ) → view value.now ≢ literal_json (lit.String s))) }
+fn idx_of(parts: &[Value]) -> Option<AExpr>
+    ensures some { IfSome result (λ e. IsExpr e (list (text (codes "idx") ∷ map view parts.now))) }
+    ensures none { IfNone result ((n : ℕ) → n < 2 ^ 32 → list (text (codes "idx") ∷ map view parts.now) ≢ expr_json (expr.Literal (lit.IdxSize n))) }
 {
-    let Some(text) = one_after(value, "str") else {
+    let number = one(parts)?;
+    Some(AExpr::Literal(LiteralValue::IdxSize(short_number_of(number)?)))
+}
+
+fn string_of(alloc: Global, parts: &[Value]) -> Result<Option<AExpr>, AllocError>
+    ensures some { IfOk result (λ o. IfSome o (λ e. IsExpr e (list (text (codes "str") ∷ map view parts.now)))) }
+    ensures none { IfOk result (λ o. IfNone o ((s : List ℕ) → list (text (codes "str") ∷ map view parts.now) ≢ expr_json (expr.Literal (lit.String s)))) }
+{
+    let Some(text) = one(parts) else {
         return Ok(None);
     };
     let text = PlSmallStr::from_json(alloc, text)?;
-    Ok(text.map(LiteralValue::String))
+    Ok(text.map(|text| AExpr::Literal(LiteralValue::String(text))))
 }
 
-fn literal_of(alloc: Global, value: &Value) -> Result<Option<LiteralValue>, AllocError>
-    ensures some { IfOk result (λ o. IfSome o (λ l. IsExpr (expr.Literal l) (view value.now))) }
-    ensures none { IfOk result (λ o. IfNone o ((l : LiteralValue) → CanStand (expr.Literal l) → view value.now ≢ literal_json l)) }
+fn column_of(alloc: Global, parts: &[Value]) -> Result<Option<AExpr>, AllocError>
+    ensures some { IfOk result (λ o. IfSome o (λ e. IsExpr e (list (text (codes "col") ∷ map view parts.now)))) }
+    ensures none { IfOk result (λ o. IfNone o ((name : List ℕ) → list (text (codes "col") ∷ map view parts.now) ≢ expr_json (expr.Column name))) }
 {
-    if let Some(literal) = null_of(value) {
-        return Ok(Some(literal));
-    }
-    if let Some(literal) = truth_literal_of(value) {
-        return Ok(Some(literal));
-    }
-    if let Some(literal) = int_of(value) {
-        return Ok(Some(literal));
-    }
-    if let Some(literal) = idx_of(value) {
-        return Ok(Some(literal));
-    }
-    string_of(alloc, value)
-}
-
-fn column_of(alloc: Global, value: &Value) -> Result<Option<AExpr>, AllocError>
-    ensures some { IfOk result (λ o. IfSome o (λ e. IsExpr e (view value.now))) }
-    ensures none { IfOk result (λ o. IfNone o ((name : List ℕ) → view value.now ≢ expr_json (expr.Column name))) }
-{
-    let Some(name) = one_after(value, "col") else {
+    let Some(name) = one(parts) else {
         return Ok(None);
     };
     let name = PlSmallStr::from_json(alloc, name)?;
     Ok(name.map(AExpr::Column))
 }
 
-fn sort_by_of(alloc: Global, value: &Value) -> Result<Option<AExpr>, AllocError>
-    ensures some { IfOk result (λ o. IfSome o (λ e. IsExpr e (view value.now))) }
-    ensures none { IfOk result (λ o. IfNone o ((e : Node) (by : List Node) (descending nulls_last : List Bool) → view value.now ≢ expr_json (expr.SortBy e by descending nulls_last))) }
+fn sort_by_of(alloc: Global, parts: &[Value]) -> Result<Option<AExpr>, AllocError>
+    ensures some { IfOk result (λ o. IfSome o (λ e. IsExpr e (list (text (codes "sort_by") ∷ map view parts.now)))) }
+    ensures none { IfOk result (λ o. IfNone o ((e : Node) (by : List Node) (descending nulls_last : List Bool) → list (text (codes "sort_by") ∷ map view parts.now) ≢ expr_json (expr.SortBy e by descending nulls_last))) }
 {
-    let Some((expr, by, descending, nulls_last)) = four_after(value, "sort_by") else {
+    let Some((expr, by, descending, nulls_last)) = four(parts) else {
         return Ok(None);
     };
     let Some(expr) = entry_of(expr) else {
@@ -270,61 +239,40 @@ fn sort_by_of(alloc: Global, value: &Value) -> Result<Option<AExpr>, AllocError>
     }))
 }
 
-/// The expression of a value, where it holds neither a text nor a list.
-fn plain_of(value: &Value) -> Option<AExpr>
-    ensures some { IfSome result (λ e. IsExpr e (view value.now)) }
-    ensures none { IfNone result ((e : AExpr) → IsTrue (is_plain e) → CanStand e → view value.now ≢ expr_json e) }
+fn left_out_expression_of(parts: &[Value]) -> Option<AExpr>
+    ensures some { IfSome result (λ e. IsExpr e (list (text (codes "left_out") ∷ map view parts.now))) }
+    ensures none { IfNone result ((w : What) → IsTrue (is_left_out_kind w) → list (text (codes "left_out") ∷ map view parts.now) ≢ expr_json (expr.LeftOut w)) }
 {
-    if let Some(expr) = len_of(value) {
-        return Some(expr);
-    }
-    if let Some(expr) = binary_of(value) {
-        return Some(expr);
-    }
-    if let Some(expr) = cast_of(value) {
-        return Some(expr);
-    }
-    if let Some(expr) = sort_of(value) {
-        return Some(expr);
-    }
-    if let Some(expr) = gather_of(value) {
-        return Some(expr);
-    }
-    if let Some(expr) = filter_of(value) {
-        return Some(expr);
-    }
-    if let Some(expr) = slice_of(value) {
-        return Some(expr);
-    }
-    if let Some(expr) = ternary_of(value) {
-        return Some(expr);
-    }
-    if let Some(expr) = function_call_of(value) {
-        return Some(expr);
-    }
-    if let Some(expr) = aggregate_of(value) {
-        return Some(expr);
-    }
-    left_out_of(value).map(AExpr::LeftOut)
+    let kind = left_out_of(parts)?;
+    Some(AExpr::LeftOut(kind))
 }
 
-/// The expression of a value.
+/// The expression of a word and what follows it.
 ///
-/// `None` where it is that of none. Fails only for want of memory.
-fn expression_of(alloc: Global, value: &Value) -> Result<Option<AExpr>, AllocError>
-    ensures some { IfOk result (λ o. IfSome o (λ e. IsExpr e (view value.now))) }
-    ensures none { IfOk result (λ o. IfNone o ((e : AExpr) → CanStand e → view value.now ≢ expr_json e)) }
+/// Fails only for want of memory.
+fn expression_of(alloc: Global, word: &str, parts: &[Value]) -> Result<Option<AExpr>, AllocError>
+    ensures some { IfOk result (λ o. IfSome o (λ e. IsExpr e (list (text word.now ∷ map view parts.now)))) }
+    ensures none { IfOk result (λ o. IfNone o ((e : AExpr) → CanStand e → list (text word.now ∷ map view parts.now) ≢ expr_json e)) }
 {
-    if let Some(expr) = plain_of(value) {
-        return Ok(Some(expr));
+    match word {
+        "col" => column_of(alloc, parts),
+        "null" => Ok(null_of(parts)),
+        "bool" => Ok(truth_literal_of(parts)),
+        "int" => Ok(int_of(parts)),
+        "idx" => Ok(idx_of(parts)),
+        "str" => string_of(alloc, parts),
+        "cast" => Ok(cast_of(parts)),
+        "sort" => Ok(sort_of(parts)),
+        "sort_by" => sort_by_of(alloc, parts),
+        "gather" => Ok(gather_of(parts)),
+        "filter" => Ok(filter_of(parts)),
+        "slice" => Ok(slice_of(parts)),
+        "ternary" => Ok(ternary_of(parts)),
+        "count" => Ok(count_of(parts)),
+        "len" => Ok(len_of(parts)),
+        "left_out" => Ok(left_out_expression_of(parts)),
+        _ => Ok(operation_of(word, parts)),
     }
-    if let Some(expr) = column_of(alloc, value)? {
-        return Ok(Some(expr));
-    }
-    if let Some(literal) = literal_of(alloc, value)? {
-        return Ok(Some(AExpr::Literal(literal)));
-    }
-    sort_by_of(alloc, value)
 }
 
 impl TakeJson<()> for AExpr {
@@ -333,6 +281,9 @@ impl TakeJson<()> for AExpr {
     ghost is_json = { λ _ e d. IsExpr e d };
 
     fn take_json(alloc: Global, _context: &(), value: Value) -> Result<Option<AExpr>, AllocError> {
-        expression_of(alloc, &value)
+        match word_and_parts(&value) {
+            Some((word, parts)) => expression_of(alloc, word, parts),
+            None => Ok(None),
+        }
     }
 }

@@ -10,7 +10,7 @@ ghost use Rattle.ps_document.specs.Found.{IsFound};
 ghost use Rattle.ps_document.specs.Json.{list};
 ghost use Rattle.ps_document.specs.Tables.{IsTable};
 
-use crate::cells::Tables;
+use crate::cells::ByToken;
 use crate::document::{Document, plan_over};
 use crate::values::entry_of;
 use json::{Reader, Scratch, Token};
@@ -65,6 +65,7 @@ pub fn read_off_tokens(alloc: Global, bytes: &[u8]) -> Result<Option<Document>, 
     let Some(root) = entry_of(&root) else {
         return Ok(None);
     };
+    // By `let`-`else`, so that the proof cites the value by its name.
     let Some(document) = plan_over(alloc, tables, exprs, nodes, root)? else {
         return Ok(None);
     };
@@ -129,7 +130,7 @@ fn read_member(
     ensures { IfOk result (λ o. IfSome o (λ more. (ms : Members) → IsFound found ms → (d : Data) × Reads 126 reader.old d reader.new × IsFound more (put name.now d ms))) }
 {
     if name == "tables" {
-        let Some(tables) = read_list::<Tables, DataFrame>(alloc, &Tables, reader)? else {
+        let Some(tables) = read_list::<ByToken, DataFrame>(alloc, &ByToken, reader)? else {
             return Ok(None);
         };
         let Some(more) = with_tables(found, tables) else {
@@ -140,6 +141,7 @@ fn read_member(
     let Some(value) = read_value(alloc, reader, MEMBER_DEPTH)? else {
         return Ok(None);
     };
+    // By `let`-`else`, so that the proof cites the value by its name.
     let Some(more) = with_value(found, name, value) else {
         return Ok(None);
     };

@@ -4,14 +4,12 @@
 mod cells;
 pub mod document;
 mod exprs;
-mod found;
+pub mod found;
 pub mod laws;
 mod nodes;
 mod options;
 mod parts;
 mod tables;
 mod taking;
-#[cfg(test)]
-mod tests;
 mod values;
 mod words;

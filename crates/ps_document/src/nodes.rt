@@ -1,41 +1,45 @@
 // The nodes of a document.
-ghost use Rattle.std.specs.Prelude.{◌≡◌, ◌≢◌, ◌∷◌, [], ℕ, ℤ, Bool, List, Option, Some, slice_get, IfOk, IfSome, IfNone, IsTrue, FitsSigned};
+ghost use Rattle.std.specs.Prelude.{◌≡◌, ◌≢◌, ◌∷◌, ℕ, ℤ, Bool, List, Option, Some, slice_get, IfOk, IfSome, IfNone, IsTrue, FitsSigned, codes, map};
 ghost use Rattle.std.specs.Int.{w64};
 ghost use Rattle.serde_json.specs.Data.{Data};
 ghost use Rattle.serde_json.specs.View.{view};
 ghost use Rattle.ps_frame.specs.Tables.{Frame};
-ghost use Rattle.ps_plan.specs.Steps.{Cut};
+ghost use Rattle.ps_meaning.specs.Steps.{Cut};
 ghost use Rattle.ps_plan.specs.declared.ir.IR.TheVariants as entry;
-ghost use Rattle.ps_plan.specs.declared.ir.FunctionIR.TheVariants as call;
+ghost use Rattle.ps_meaning.specs.declared.options.FunctionIR.TheVariants as call;
 ghost use Rattle.ps_document.specs.Nodes.{CutFits, IsNode, OffsetFits, cut_json, function_json, node_json};
 ghost use Rattle.ps_document.specs.Expressions.{entry_number};
-ghost use Rattle.ps_document.specs.Json.{text, truth};
-ghost use Rattle.ps_document.specs.Owning.{is_listing_node, is_other_node, is_plain_node};
-ghost use Rattle.ps_document.specs.Words.{join_word, keep_word, validation_word};
+ghost use Rattle.ps_document.specs.Json.{list, text, truth};
+ghost use Rattle.ps_document.specs.Words.{is_left_out_kind, join_word, keep_word, validation_word};
 
 use crate::options::{cut_of, names_of, offset_of, suffix_of};
 use crate::parts::{FromJson, Key, Named, Plain, left_out_of, list_from};
 use crate::taking::TakeJson;
 use crate::values::{
-    entry_of, five_after, nine_after, number_of, one_after, text_of, three_after, truth_of, two,
-    two_after, whole_number_of,
+    entry_of, five, nine, number_of, one, text_of, three, truth_of, two, whole_number_of,
+    word_and_parts,
 };
 use crate::words::{join_of, keep_of, sink_of, validation_of};
+use ps_frame::expr::What;
 use ps_frame::frame::DataFrame;
-use ps_plan::ir::{
-    DistinctOptions, ExprIR, FunctionIR, GroupbyOptions, IR, JoinArgs, JoinType, JoinValidation,
+use ps_meaning::options::{
+    DistinctOptions, ExprIR, FunctionIR, GroupbyOptions, JoinArgs, JoinType, JoinValidation,
     SinkType, SortMultipleOptions, UnionOptions, UniqueKeepStrategy,
 };
-use pu_index::Node;
-use pu_order::PlSmallStr;
+use ps_plan::ir::IR;
+use pu_base::{Node, PlSmallStr};
 use serde_json::Value;
 use std::alloc::{AllocError, Global};
 
-fn scan_of(alloc: Global, tables: &Vec<DataFrame>, value: &Value) -> Result<Option<IR>, AllocError>
-    ensures some { IfOk result (λ o. IfSome o (λ e. IsNode tables.now.items e (view value.now))) }
-    ensures none { IfOk result (λ o. IfNone o ((table : ℕ) (df : Frame) (columns : Option (List (List ℕ))) → slice_get tables.now.items table ≡ Some df → view value.now ≢ node_json table (entry.DataFrameScan df columns))) }
+fn scan_of(
+    alloc: Global,
+    tables: &Vec<DataFrame>,
+    parts: &[Value],
+) -> Result<Option<IR>, AllocError>
+    ensures some { IfOk result (λ o. IfSome o (λ e. IsNode tables.now.items e (list (text (codes "scan") ∷ map view parts.now)))) }
+    ensures none { IfOk result (λ o. IfNone o ((table : ℕ) (df : Frame) (columns : Option (List (List ℕ))) → slice_get tables.now.items table ≡ Some df → list (text (codes "scan") ∷ map view parts.now) ≢ node_json table (entry.DataFrameScan df columns))) }
 {
-    let Some((table, columns)) = two_after(value, "scan") else {
+    let Some((table, columns)) = two(parts) else {
         return Ok(None);
     };
     let Some(table) = number_of(table) else {
@@ -47,17 +51,18 @@ fn scan_of(alloc: Global, tables: &Vec<DataFrame>, value: &Value) -> Result<Opti
     let Some(projection) = names_of(alloc, columns)? else {
         return Ok(None);
     };
+    // The only error is want of memory; `map_err` would hide the value in a closure.
     match df.share(alloc) {
         Ok(df) => Ok(Some(IR::DataFrameScan { df, projection })),
         Err(_) => Err(AllocError),
     }
 }
 
-fn projection_of(alloc: Global, value: &Value) -> Result<Option<IR>, AllocError>
-    ensures some { IfOk result (λ o. IfSome o (λ e. (tables : List Frame) → IsNode tables e (view value.now))) }
-    ensures none { IfOk result (λ o. IfNone o ((i : Node) (columns : List (List ℕ)) → view value.now ≢ node_json 0 (entry.SimpleProjection i columns))) }
+fn projection_of(alloc: Global, parts: &[Value]) -> Result<Option<IR>, AllocError>
+    ensures some { IfOk result (λ o. IfSome o (λ e. (tables : List Frame) → IsNode tables e (list (text (codes "project") ∷ map view parts.now)))) }
+    ensures none { IfOk result (λ o. IfNone o ((i : Node) (columns : List (List ℕ)) → list (text (codes "project") ∷ map view parts.now) ≢ node_json 0 (entry.SimpleProjection i columns))) }
 {
-    let Some((input, columns)) = two_after(value, "project") else {
+    let Some((input, columns)) = two(parts) else {
         return Ok(None);
     };
     let Some(input) = entry_of(input) else {
@@ -69,11 +74,11 @@ fn projection_of(alloc: Global, value: &Value) -> Result<Option<IR>, AllocError>
     Ok(Some(IR::SimpleProjection { input, columns }))
 }
 
-fn select_of(alloc: Global, value: &Value) -> Result<Option<IR>, AllocError>
-    ensures some { IfOk result (λ o. IfSome o (λ e. (tables : List Frame) → IsNode tables e (view value.now))) }
-    ensures none { IfOk result (λ o. IfNone o ((i : Node) (es : List ExprIR) → view value.now ≢ node_json 0 (entry.Select i es))) }
+fn select_of(alloc: Global, parts: &[Value]) -> Result<Option<IR>, AllocError>
+    ensures some { IfOk result (λ o. IfSome o (λ e. (tables : List Frame) → IsNode tables e (list (text (codes "select") ∷ map view parts.now)))) }
+    ensures none { IfOk result (λ o. IfNone o ((i : Node) (es : List ExprIR) → list (text (codes "select") ∷ map view parts.now) ≢ node_json 0 (entry.Select i es))) }
 {
-    let Some((input, expr)) = two_after(value, "select") else {
+    let Some((input, expr)) = two(parts) else {
         return Ok(None);
     };
     let Some(input) = entry_of(input) else {
@@ -85,11 +90,11 @@ fn select_of(alloc: Global, value: &Value) -> Result<Option<IR>, AllocError>
     Ok(Some(IR::Select { input, expr }))
 }
 
-fn hstack_of(alloc: Global, value: &Value) -> Result<Option<IR>, AllocError>
-    ensures some { IfOk result (λ o. IfSome o (λ e. (tables : List Frame) → IsNode tables e (view value.now))) }
-    ensures none { IfOk result (λ o. IfNone o ((i : Node) (es : List ExprIR) → view value.now ≢ node_json 0 (entry.HStack i es))) }
+fn hstack_of(alloc: Global, parts: &[Value]) -> Result<Option<IR>, AllocError>
+    ensures some { IfOk result (λ o. IfSome o (λ e. (tables : List Frame) → IsNode tables e (list (text (codes "hstack") ∷ map view parts.now)))) }
+    ensures none { IfOk result (λ o. IfNone o ((i : Node) (es : List ExprIR) → list (text (codes "hstack") ∷ map view parts.now) ≢ node_json 0 (entry.HStack i es))) }
 {
-    let Some((input, exprs)) = two_after(value, "hstack") else {
+    let Some((input, exprs)) = two(parts) else {
         return Ok(None);
     };
     let Some(input) = entry_of(input) else {
@@ -101,11 +106,11 @@ fn hstack_of(alloc: Global, value: &Value) -> Result<Option<IR>, AllocError>
     Ok(Some(IR::HStack { input, exprs }))
 }
 
-fn filter_of(alloc: Global, value: &Value) -> Result<Option<IR>, AllocError>
-    ensures some { IfOk result (λ o. IfSome o (λ e. (tables : List Frame) → IsNode tables e (view value.now))) }
-    ensures none { IfOk result (λ o. IfNone o ((i : Node) (predicate : ExprIR) → view value.now ≢ node_json 0 (entry.Filter i predicate))) }
+fn filter_of(alloc: Global, parts: &[Value]) -> Result<Option<IR>, AllocError>
+    ensures some { IfOk result (λ o. IfSome o (λ e. (tables : List Frame) → IsNode tables e (list (text (codes "filter") ∷ map view parts.now)))) }
+    ensures none { IfOk result (λ o. IfNone o ((i : Node) (predicate : ExprIR) → list (text (codes "filter") ∷ map view parts.now) ≢ node_json 0 (entry.Filter i predicate))) }
 {
-    let Some((input, predicate)) = two_after(value, "filter") else {
+    let Some((input, predicate)) = two(parts) else {
         return Ok(None);
     };
     let Some(input) = entry_of(input) else {
@@ -115,11 +120,11 @@ fn filter_of(alloc: Global, value: &Value) -> Result<Option<IR>, AllocError>
     Ok(predicate.map(|predicate| IR::Filter { input, predicate }))
 }
 
-fn slice_of(value: &Value) -> Option<IR>
-    ensures some { IfSome result (λ e. (tables : List Frame) → IsNode tables e (view value.now)) }
-    ensures none { IfNone result ((i : Node) (offset : ℤ) (len : ℕ) → FitsSigned w64 offset → view value.now ≢ node_json 0 (entry.Slice i offset len)) }
+fn slice_of(parts: &[Value]) -> Option<IR>
+    ensures some { IfSome result (λ e. (tables : List Frame) → IsNode tables e (list (text (codes "slice") ∷ map view parts.now))) }
+    ensures none { IfNone result ((i : Node) (offset : ℤ) (len : ℕ) → FitsSigned w64 offset → list (text (codes "slice") ∷ map view parts.now) ≢ node_json 0 (entry.Slice i offset len)) }
 {
-    let (input, offset, len) = three_after(value, "slice")?;
+    let (input, offset, len) = three(parts)?;
     Some(IR::Slice {
         input: entry_of(input)?,
         offset: whole_number_of(offset)?,
@@ -127,22 +132,22 @@ fn slice_of(value: &Value) -> Option<IR>
     })
 }
 
-fn sink_node_of(value: &Value) -> Option<IR>
-    ensures some { IfSome result (λ e. (tables : List Frame) → IsNode tables e (view value.now)) }
-    ensures none { IfNone result ((i : Node) (payload : SinkType) → view value.now ≢ node_json 0 (entry.Sink i payload)) }
+fn sink_node_of(word: &str, parts: &[Value]) -> Option<IR>
+    ensures some { IfSome result (λ e. (tables : List Frame) → IsNode tables e (list (text word.now ∷ map view parts.now))) }
+    ensures none { IfNone result ((i : Node) (payload : SinkType) → list (text word.now ∷ map view parts.now) ≢ node_json 0 (entry.Sink i payload)) }
 {
-    let (word, input) = two(value)?;
+    let payload = sink_of(word)?;
     Some(IR::Sink {
-        input: entry_of(input)?,
-        payload: sink_of(text_of(word)?)?,
+        input: entry_of(one(parts)?)?,
+        payload,
     })
 }
 
-fn row_index_of(alloc: Global, value: &Value) -> Result<Option<IR>, AllocError>
-    ensures some { IfOk result (λ o. IfSome o (λ e. (tables : List Frame) → IsNode tables e (view value.now))) }
-    ensures none { IfOk result (λ o. IfNone o ((i : Node) (name : List ℕ) (offset : Option ℕ) → OffsetFits offset → view value.now ≢ function_json (entry_number i) (call.RowIndex name offset))) }
+fn row_index_of(alloc: Global, parts: &[Value]) -> Result<Option<IR>, AllocError>
+    ensures some { IfOk result (λ o. IfSome o (λ e. (tables : List Frame) → IsNode tables e (list (text (codes "row_index") ∷ map view parts.now)))) }
+    ensures none { IfOk result (λ o. IfNone o ((i : Node) (name : List ℕ) (offset : Option ℕ) → OffsetFits offset → list (text (codes "row_index") ∷ map view parts.now) ≢ function_json (entry_number i) (call.RowIndex name offset))) }
 {
-    let Some((input, name, offset)) = three_after(value, "row_index") else {
+    let Some((input, name, offset)) = three(parts) else {
         return Ok(None);
     };
     let Some(input) = entry_of(input) else {
@@ -158,22 +163,22 @@ fn row_index_of(alloc: Global, value: &Value) -> Result<Option<IR>, AllocError>
     }))
 }
 
-fn map_of(value: &Value) -> Option<IR>
-    ensures some { IfSome result (λ e. (tables : List Frame) → IsNode tables e (view value.now)) }
-    ensures none { IfNone result ((i : Node) (n : ℕ) → view value.now ≢ function_json (entry_number i) (call.User n)) }
+fn map_of(parts: &[Value]) -> Option<IR>
+    ensures some { IfSome result (λ e. (tables : List Frame) → IsNode tables e (list (text (codes "map") ∷ map view parts.now))) }
+    ensures none { IfNone result ((i : Node) (n : ℕ) → list (text (codes "map") ∷ map view parts.now) ≢ function_json (entry_number i) (call.User n)) }
 {
-    let (input, function) = two_after(value, "map")?;
+    let (input, function) = two(parts)?;
     Some(IR::MapFunction {
         input: entry_of(input)?,
         function: FunctionIR::User(number_of(function)?),
     })
 }
 
-fn sort_of(alloc: Global, value: &Value) -> Result<Option<IR>, AllocError>
-    ensures some { IfOk result (λ o. IfSome o (λ e. (tables : List Frame) → IsNode tables e (view value.now))) }
-    ensures none { IfOk result (λ o. IfNone o ((i : Node) (by : List ExprIR) (cut : Cut) (options : SortMultipleOptions) → CutFits cut → view value.now ≢ node_json 0 (entry.Sort i by cut options))) }
+fn sort_of(alloc: Global, parts: &[Value]) -> Result<Option<IR>, AllocError>
+    ensures some { IfOk result (λ o. IfSome o (λ e. (tables : List Frame) → IsNode tables e (list (text (codes "sort") ∷ map view parts.now)))) }
+    ensures none { IfOk result (λ o. IfNone o ((i : Node) (by : List ExprIR) (cut : Cut) (options : SortMultipleOptions) → CutFits cut → list (text (codes "sort") ∷ map view parts.now) ≢ node_json 0 (entry.Sort i by cut options))) }
 {
-    let Some((input, by, descending, nulls_last, slice)) = five_after(value, "sort") else {
+    let Some((input, by, descending, nulls_last, slice)) = five(parts) else {
         return Ok(None);
     };
     let Some(input) = entry_of(input) else {
@@ -202,11 +207,11 @@ fn sort_of(alloc: Global, value: &Value) -> Result<Option<IR>, AllocError>
     }))
 }
 
-fn union_of(alloc: Global, value: &Value) -> Result<Option<IR>, AllocError>
-    ensures some { IfOk result (λ o. IfSome o (λ e. (tables : List Frame) → IsNode tables e (view value.now))) }
-    ensures none { IfOk result (λ o. IfNone o ((inputs : List Node) (options : UnionOptions) → CutFits options.slice → view value.now ≢ node_json 0 (entry.Union inputs options))) }
+fn union_of(alloc: Global, parts: &[Value]) -> Result<Option<IR>, AllocError>
+    ensures some { IfOk result (λ o. IfSome o (λ e. (tables : List Frame) → IsNode tables e (list (text (codes "union") ∷ map view parts.now)))) }
+    ensures none { IfOk result (λ o. IfNone o ((inputs : List Node) (options : UnionOptions) → CutFits options.slice → list (text (codes "union") ∷ map view parts.now) ≢ node_json 0 (entry.Union inputs options))) }
 {
-    let Some((inputs, slice)) = two_after(value, "union") else {
+    let Some((inputs, slice)) = two(parts) else {
         return Ok(None);
     };
     let Some(slice) = cut_of(slice) else {
@@ -221,11 +226,11 @@ fn union_of(alloc: Global, value: &Value) -> Result<Option<IR>, AllocError>
     }))
 }
 
-fn hconcat_of(alloc: Global, value: &Value) -> Result<Option<IR>, AllocError>
-    ensures some { IfOk result (λ o. IfSome o (λ e. (tables : List Frame) → IsNode tables e (view value.now))) }
-    ensures none { IfOk result (λ o. IfNone o ((inputs : List Node) → view value.now ≢ node_json 0 (entry.HConcat inputs))) }
+fn hconcat_of(alloc: Global, parts: &[Value]) -> Result<Option<IR>, AllocError>
+    ensures some { IfOk result (λ o. IfSome o (λ e. (tables : List Frame) → IsNode tables e (list (text (codes "hconcat") ∷ map view parts.now)))) }
+    ensures none { IfOk result (λ o. IfNone o ((inputs : List Node) → list (text (codes "hconcat") ∷ map view parts.now) ≢ node_json 0 (entry.HConcat inputs))) }
 {
-    let Some(inputs) = one_after(value, "hconcat") else {
+    let Some(inputs) = one(parts) else {
         return Ok(None);
     };
     let Some(inputs) = list_from::<Plain, Node>(alloc, inputs)? else {
@@ -234,11 +239,11 @@ fn hconcat_of(alloc: Global, value: &Value) -> Result<Option<IR>, AllocError>
     Ok(Some(IR::HConcat { inputs }))
 }
 
-fn cache_of(value: &Value) -> Option<IR>
-    ensures some { IfSome result (λ e. (tables : List Frame) → IsNode tables e (view value.now)) }
-    ensures none { IfNone result ((i : Node) (id hits : ℕ) → view value.now ≢ node_json 0 (entry.Cache i id hits)) }
+fn cache_of(parts: &[Value]) -> Option<IR>
+    ensures some { IfSome result (λ e. (tables : List Frame) → IsNode tables e (list (text (codes "cache") ∷ map view parts.now))) }
+    ensures none { IfNone result ((i : Node) (id hits : ℕ) → list (text (codes "cache") ∷ map view parts.now) ≢ node_json 0 (entry.Cache i id hits)) }
 {
-    let (input, id) = two_after(value, "cache")?;
+    let (input, id) = two(parts)?;
     Some(IR::Cache {
         input: entry_of(input)?,
         id: number_of(id)?,
@@ -246,11 +251,11 @@ fn cache_of(value: &Value) -> Option<IR>
     })
 }
 
-fn group_by_of(alloc: Global, value: &Value) -> Result<Option<IR>, AllocError>
-    ensures some { IfOk result (λ o. IfSome o (λ e. (tables : List Frame) → IsNode tables e (view value.now))) }
-    ensures none { IfOk result (λ o. IfNone o ((i : Node) (keys aggs : List ExprIR) (maintain : Bool) (options : GroupbyOptions) → CutFits options.slice → view value.now ≢ node_json 0 (entry.GroupBy i keys aggs maintain options))) }
+fn group_by_of(alloc: Global, parts: &[Value]) -> Result<Option<IR>, AllocError>
+    ensures some { IfOk result (λ o. IfSome o (λ e. (tables : List Frame) → IsNode tables e (list (text (codes "group_by") ∷ map view parts.now)))) }
+    ensures none { IfOk result (λ o. IfNone o ((i : Node) (keys aggs : List ExprIR) (maintain : Bool) (options : GroupbyOptions) → CutFits options.slice → list (text (codes "group_by") ∷ map view parts.now) ≢ node_json 0 (entry.GroupBy i keys aggs maintain options))) }
 {
-    let Some((input, keys, aggs, maintain_order, slice)) = five_after(value, "group_by") else {
+    let Some((input, keys, aggs, maintain_order, slice)) = five(parts) else {
         return Ok(None);
     };
     let Some(input) = entry_of(input) else {
@@ -277,11 +282,11 @@ fn group_by_of(alloc: Global, value: &Value) -> Result<Option<IR>, AllocError>
     }))
 }
 
-fn distinct_of(alloc: Global, value: &Value) -> Result<Option<IR>, AllocError>
-    ensures some { IfOk result (λ o. IfSome o (λ e. (tables : List Frame) → IsNode tables e (view value.now))) }
-    ensures none { IfOk result (λ o. IfNone o ((i : Node) (options : DistinctOptions) → CutFits options.slice → view value.now ≢ node_json 0 (entry.Distinct i options))) }
+fn distinct_of(alloc: Global, parts: &[Value]) -> Result<Option<IR>, AllocError>
+    ensures some { IfOk result (λ o. IfSome o (λ e. (tables : List Frame) → IsNode tables e (list (text (codes "distinct") ∷ map view parts.now)))) }
+    ensures none { IfOk result (λ o. IfNone o ((i : Node) (options : DistinctOptions) → CutFits options.slice → list (text (codes "distinct") ∷ map view parts.now) ≢ node_json 0 (entry.Distinct i options))) }
 {
-    let Some((input, subset, maintain_order, keep, slice)) = five_after(value, "distinct") else {
+    let Some((input, subset, maintain_order, keep, slice)) = five(parts) else {
         return Ok(None);
     };
     let Some(input) = entry_of(input) else {
@@ -340,13 +345,12 @@ fn join_parts(
     Some((how, truth_of(join_nulls)?, validation, cut_of(slice)?))
 }
 
-fn join_node_of(alloc: Global, value: &Value) -> Result<Option<IR>, AllocError>
-    ensures some { IfOk result (λ o. IfSome o (λ e. (tables : List Frame) → IsNode tables e (view value.now))) }
-    ensures none { IfOk result (λ o. IfNone o ((l r : Node) (left_on right_on : List ExprIR) (args : JoinArgs) → CutFits args.slice → view value.now ≢ node_json 0 (entry.Join l r left_on right_on args))) }
+fn join_node_of(alloc: Global, parts: &[Value]) -> Result<Option<IR>, AllocError>
+    ensures some { IfOk result (λ o. IfSome o (λ e. (tables : List Frame) → IsNode tables e (list (text (codes "join") ∷ map view parts.now)))) }
+    ensures none { IfOk result (λ o. IfNone o ((l r : Node) (left_on right_on : List ExprIR) (args : JoinArgs) → CutFits args.slice → list (text (codes "join") ∷ map view parts.now) ≢ node_json 0 (entry.Join l r left_on right_on args))) }
 {
-    let Some((left, right, how, left_on, right_on, suffix, nulls, validation, slice)) = nine_after(
-        value, "join",
-    ) else {
+    let Some((left, right, how, left_on, right_on, suffix, nulls, validation, slice)) = nine(parts)
+    else {
         return Ok(None);
     };
     let Some(input_left) = entry_of(left) else {
@@ -383,68 +387,45 @@ fn join_node_of(alloc: Global, value: &Value) -> Result<Option<IR>, AllocError>
     }))
 }
 
-/// The node of a value, where it holds neither a text, a list nor a table.
-fn plain_of(value: &Value) -> Option<IR>
-    ensures some { IfSome result (λ e. (tables : List Frame) → IsNode tables e (view value.now)) }
-    ensures none { IfNone result ((tables : List Frame) (e : IR) → IsTrue (is_plain_node e) → IsNode tables e (view value.now) → ⊥) }
+fn left_out_node_of(parts: &[Value]) -> Option<IR>
+    ensures some { IfSome result (λ e. (tables : List Frame) → IsNode tables e (list (text (codes "left_out") ∷ map view parts.now))) }
+    ensures none { IfNone result ((w : What) → IsTrue (is_left_out_kind w) → list (text (codes "left_out") ∷ map view parts.now) ≢ node_json 0 (entry.LeftOut w)) }
 {
-    if let Some(node) = slice_of(value) {
-        return Some(node);
-    }
-    if let Some(node) = sink_node_of(value) {
-        return Some(node);
-    }
-    if let Some(node) = map_of(value) {
-        return Some(node);
-    }
-    if let Some(node) = cache_of(value) {
-        return Some(node);
-    }
-    let kind = left_out_of(value)?;
+    let kind = left_out_of(parts)?;
     Some(IR::LeftOut(kind))
 }
 
-/// The node of a value, where it has one input and a list.
-fn listing_of(alloc: Global, value: &Value) -> Result<Option<IR>, AllocError>
-    ensures some { IfOk result (λ o. IfSome o (λ e. (tables : List Frame) → IsNode tables e (view value.now))) }
-    ensures none { IfOk result (λ o. IfNone o ((tables : List Frame) (e : IR) → IsTrue (is_listing_node e) → IsNode tables e (view value.now) → ⊥)) }
+/// The node of a word and what follows it.
+///
+/// Fails only for want of memory.
+fn node_of(
+    alloc: Global,
+    tables: &Vec<DataFrame>,
+    word: &str,
+    parts: &[Value],
+) -> Result<Option<IR>, AllocError>
+    ensures some { IfOk result (λ o. IfSome o (λ e. IsNode tables.now.items e (list (text word.now ∷ map view parts.now)))) }
+    ensures none { IfOk result (λ o. IfNone o ((e : IR) → IsNode tables.now.items e (list (text word.now ∷ map view parts.now)) → ⊥)) }
 {
-    if let Some(node) = projection_of(alloc, value)? {
-        return Ok(Some(node));
+    match word {
+        "scan" => scan_of(alloc, tables, parts),
+        "project" => projection_of(alloc, parts),
+        "select" => select_of(alloc, parts),
+        "hstack" => hstack_of(alloc, parts),
+        "filter" => filter_of(alloc, parts),
+        "slice" => Ok(slice_of(parts)),
+        "row_index" => row_index_of(alloc, parts),
+        "map" => Ok(map_of(parts)),
+        "sort" => sort_of(alloc, parts),
+        "union" => union_of(alloc, parts),
+        "hconcat" => hconcat_of(alloc, parts),
+        "cache" => Ok(cache_of(parts)),
+        "group_by" => group_by_of(alloc, parts),
+        "join" => join_node_of(alloc, parts),
+        "distinct" => distinct_of(alloc, parts),
+        "left_out" => Ok(left_out_node_of(parts)),
+        _ => Ok(sink_node_of(word, parts)),
     }
-    if let Some(node) = select_of(alloc, value)? {
-        return Ok(Some(node));
-    }
-    if let Some(node) = hstack_of(alloc, value)? {
-        return Ok(Some(node));
-    }
-    if let Some(node) = sort_of(alloc, value)? {
-        return Ok(Some(node));
-    }
-    if let Some(node) = group_by_of(alloc, value)? {
-        return Ok(Some(node));
-    }
-    distinct_of(alloc, value)
-}
-
-/// The node of a value, where it has several inputs, a text or a key.
-fn other_of(alloc: Global, value: &Value) -> Result<Option<IR>, AllocError>
-    ensures some { IfOk result (λ o. IfSome o (λ e. (tables : List Frame) → IsNode tables e (view value.now))) }
-    ensures none { IfOk result (λ o. IfNone o ((tables : List Frame) (e : IR) → IsTrue (is_other_node e) → IsNode tables e (view value.now) → ⊥)) }
-{
-    if let Some(node) = filter_of(alloc, value)? {
-        return Ok(Some(node));
-    }
-    if let Some(node) = row_index_of(alloc, value)? {
-        return Ok(Some(node));
-    }
-    if let Some(node) = union_of(alloc, value)? {
-        return Ok(Some(node));
-    }
-    if let Some(node) = hconcat_of(alloc, value)? {
-        return Ok(Some(node));
-    }
-    join_node_of(alloc, value)
 }
 
 impl TakeJson<Vec<DataFrame>> for IR {
@@ -457,15 +438,9 @@ impl TakeJson<Vec<DataFrame>> for IR {
         tables: &Vec<DataFrame>,
         value: Value,
     ) -> Result<Option<IR>, AllocError> {
-        if let Some(node) = plain_of(&value) {
-            return Ok(Some(node));
+        match word_and_parts(&value) {
+            Some((word, parts)) => node_of(alloc, tables, word, parts),
+            None => Ok(None),
         }
-        if let Some(node) = listing_of(alloc, &value)? {
-            return Ok(Some(node));
-        }
-        if let Some(node) = other_of(alloc, &value)? {
-            return Ok(Some(node));
-        }
-        scan_of(alloc, tables, &value)
     }
 }

@@ -1,14 +1,14 @@
 // Parts of nodes that may be null.
 ghost use Rattle.std.specs.Prelude.{◌≡◌, ◌≢◌, ℕ, List, Option, IfOk, IfSome, IfNone};
 ghost use Rattle.serde_json.specs.View.{view};
-ghost use Rattle.ps_plan.specs.Steps.{Cut};
+ghost use Rattle.ps_meaning.specs.Steps.{Cut};
 ghost use Rattle.ps_document.specs.Json.{count, or_null, text};
 ghost use Rattle.ps_document.specs.Nodes.{CutFits, OffsetFits, cut_json, names_json};
 
 use crate::parts::{FromJson, Plain, list_from};
-use crate::values::{is_null, number_of, short_number_of, two, whole_number_of};
+use crate::values::{is_null, number_of, pair, short_number_of, whole_number_of};
 use ps_frame::items::Items;
-use pu_order::PlSmallStr;
+use pu_base::PlSmallStr;
 use serde_json::Value;
 use std::alloc::{AllocError, Global};
 
@@ -21,7 +21,7 @@ pub fn cut_of(value: &Value) -> Option<Option<(i64, usize)>>
     if is_null(value) {
         return Some(None);
     }
-    let (offset, len) = two(value)?;
+    let (offset, len) = pair(value)?;
     Some(Some((whole_number_of(offset)?, number_of(len)?)))
 }
 

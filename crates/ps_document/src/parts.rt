@@ -1,17 +1,16 @@
 // Parts of a document, and lists of them.
-ghost use Rattle.std.specs.Prelude.{◌≡◌, ◌≢◌, ◌∷◌, [], List, All, IsTrue, IfOk, IfSome, IfNone, codes};
+ghost use Rattle.std.specs.Prelude.{◌≡◌, ◌≢◌, ◌∷◌, [], List, All, IsTrue, IfOk, IfSome, IfNone, codes, map};
 ghost use Rattle.serde_json.specs.View.{view};
 ghost use Rattle.ps_frame.specs.Lines.{what_name};
 ghost use Rattle.ps_document.specs.Json.{list, list_of, text};
 ghost use Rattle.ps_document.specs.Words.{is_left_out_kind};
 
-use crate::values::{elements, entry_of, one_after, text_of, truth_of, two};
+use crate::values::{elements, entry_of, one, pair, text_of, truth_of};
 use crate::words::left_out_kind_of;
 use ps_frame::expr::What;
 use ps_frame::items::Items;
-use ps_plan::ir::{ExprIR, OutputName};
-use pu_index::Node;
-use pu_order::PlSmallStr;
+use ps_meaning::options::{ExprIR, OutputName};
+use pu_base::{Node, PlSmallStr};
 use serde_json::Value;
 use std::alloc::{AllocError, Global};
 
@@ -105,6 +104,7 @@ impl FromJson<Plain> for PlSmallStr {
         let Some(text) = text_of(value) else {
             return Ok(None);
         };
+        // The only error is want of memory; `map_err` would hide the value in a closure.
         match PlSmallStr::from_str(alloc, text) {
             Ok(text) => Ok(Some(text)),
             Err(_) => Err(AllocError),
@@ -120,7 +120,7 @@ impl FromJson<Named> for ExprIR {
     ghost stands = { IsNamed };
 
     fn from_json(alloc: Global, value: &Value) -> Result<Option<ExprIR>, AllocError> {
-        let Some((name, node)) = two(value) else {
+        let Some((name, node)) = pair(value) else {
             return Ok(None);
         };
         let Some(node) = entry_of(node) else {
@@ -153,11 +153,10 @@ impl FromJson<Key> for ExprIR {
 }
 
 /// The kind of an entry that is left out.
-pub fn left_out_of(value: &Value) -> Option<What>
-    ensures some { IfSome result (λ w. view value.now ≡ list (text (codes "left_out") ∷ text (what_name w) ∷ [])) }
+pub fn left_out_of(parts: &[Value]) -> Option<What>
+    ensures some { IfSome result (λ w. list (text (codes "left_out") ∷ map view parts.now) ≡ list (text (codes "left_out") ∷ text (what_name w) ∷ [])) }
     ensures left_out { IfSome result (λ w. IsTrue (is_left_out_kind w)) }
-    ensures none { IfNone result ((w : What) → IsTrue (is_left_out_kind w) → view value.now ≢ list (text (codes "left_out") ∷ text (what_name w) ∷ [])) }
+    ensures none { IfNone result ((w : What) → IsTrue (is_left_out_kind w) → list (text (codes "left_out") ∷ map view parts.now) ≢ list (text (codes "left_out") ∷ text (what_name w) ∷ [])) }
 {
-    let word = one_after(value, "left_out")?;
-    left_out_kind_of(text_of(word)?)
+    left_out_kind_of(text_of(one(parts)?)?)
 }

@@ -18,7 +18,7 @@ use ps_frame::error::FrameError;
 use ps_frame::frame::DataFrame;
 use ps_frame::schema::Schema;
 use ps_frame::value::{DataType, Value};
-use pu_order::PlSmallStr;
+use pu_base::PlSmallStr;
 use serde_json::Value as Json;
 use std::alloc::{AllocError, Global};
 
@@ -114,6 +114,7 @@ impl TakeJson<()> for NamedColumn {
         let Some(values) = take_list::<DataType, Value>(alloc, &dtype, cells)? else {
             return Ok(None);
         };
+        // Each value is of the kind, so the only error is want of memory.
         match Column::new(alloc, dtype, values) {
             Ok(column) => Ok(Some(NamedColumn { name, column })),
             Err(_) => Err(AllocError),
@@ -133,6 +134,7 @@ fn push_field(
     ensures new_name { IfOk result (λ added. added ≡ not (has_name name schema.old)) }
     ensures added { OnOk result (IsFalse (has_name name schema.old) → schema.new ≡ schema.old ++ (name, dtype) ∷ []) }
 {
+    // Any other error is want of memory.
     match schema.push(alloc, name, dtype) {
         Ok(()) => Ok(true),
         Err(FrameError::Duplicate { name: _ }) => Ok(false),
@@ -174,6 +176,7 @@ pub fn table_of(alloc: Global, columns: Vec<NamedColumn>) -> Result<Option<DataF
     let Some((schema, columns)) = apart(alloc, columns)? else {
         return Ok(None);
     };
+    // Any other error is want of memory.
     match DataFrame::new(alloc, schema, columns) {
         Ok(df) => Ok(Some(df)),
         Err(FrameError::Height) => Ok(None),

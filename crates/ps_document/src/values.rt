@@ -6,7 +6,7 @@ ghost use Rattle.serde_json.specs.View.{view};
 ghost use Rattle.ps_document.specs.Expressions.{entry_number};
 ghost use Rattle.ps_document.specs.Json.{count, list, text, truth, whole_number as whole};
 
-use pu_index::Node;
+use pu_base::Node;
 use serde_json::Value;
 
 /// The elements of an array.
@@ -17,89 +17,88 @@ pub fn elements(value: &Value) -> Option<&[Value]>
     value.as_array().map(|items| items.as_slice())
 }
 
-/// The element of an array of one.
-pub fn one(value: &Value) -> Option<&Value>
-    ensures some { IfSome result (λ a. view value.now ≡ list (view a.now ∷ [])) }
-    ensures none { IfNone result ((a : Data) → view value.now ≢ list (a ∷ [])) }
+/// The word that an entry begins with, and what follows it.
+pub fn word_and_parts(value: &Value) -> Option<(&str, &[Value])>
+    ensures some { IfSome result (λ t. view value.now ≡ list (text t.0.now ∷ map view t.1.now)) }
+    ensures none { IfNone result ((word : List ℕ) (ds : List Data) → view value.now ≢ list (text word ∷ ds)) }
 {
-    let items = elements(value)?;
-    if items.len() == 1 {
-        Some(&items[0])
-    } else {
-        None
+    match elements(value)? {
+        [first, parts @ ..] => Some((text_of(first)?, parts)),
+        [] => None,
     }
 }
 
 /// The elements of an array of two.
-pub fn two(value: &Value) -> Option<(&Value, &Value)>
+pub fn pair(value: &Value) -> Option<(&Value, &Value)>
     ensures some { IfSome result (λ t. view value.now ≡ list (view t.0.now ∷ view t.1.now ∷ [])) }
     ensures none { IfNone result ((a b : Data) → view value.now ≢ list (a ∷ b ∷ [])) }
 {
-    let items = elements(value)?;
-    if items.len() == 2 {
-        Some((&items[0], &items[1]))
-    } else {
-        None
-    }
+    two(elements(value)?)
 }
 
-/// The elements of an array of three.
-pub fn three(value: &Value) -> Option<(&Value, &Value, &Value)>
-    ensures some { IfSome result (λ t. view value.now ≡ list (view t.0.now ∷ view t.1.now ∷ view t.2.now ∷ [])) }
-    ensures none { IfNone result ((a b c : Data) → view value.now ≢ list (a ∷ b ∷ c ∷ [])) }
+/// The part, where there is one.
+pub fn one(parts: &[Value]) -> Option<&Value>
+    ensures some { IfSome result (λ a. list (map view parts.now) ≡ list (view a.now ∷ [])) }
+    ensures none { IfNone result ((first a : Data) → list (first ∷ map view parts.now) ≢ list (first ∷ a ∷ [])) }
 {
-    let items = elements(value)?;
-    if items.len() == 3 {
-        Some((&items[0], &items[1], &items[2]))
+    if parts.len() == 1 {
+        Some(&parts[0])
     } else {
         None
     }
 }
 
-/// The elements of an array of four.
-pub fn four(value: &Value) -> Option<(&Value, &Value, &Value, &Value)>
-    ensures some { IfSome result (λ t. view value.now ≡ list (view t.0.now ∷ view t.1.now ∷ view t.2.now ∷ view t.3.now ∷ [])) }
-    ensures none { IfNone result ((a b c d : Data) → view value.now ≢ list (a ∷ b ∷ c ∷ d ∷ [])) }
+/// The parts, where there are two.
+pub fn two(parts: &[Value]) -> Option<(&Value, &Value)>
+    ensures some { IfSome result (λ t. list (map view parts.now) ≡ list (view t.0.now ∷ view t.1.now ∷ [])) }
+    ensures none { IfNone result ((first a b : Data) → list (first ∷ map view parts.now) ≢ list (first ∷ a ∷ b ∷ [])) }
 {
-    let items = elements(value)?;
-    if items.len() == 4 {
-        Some((&items[0], &items[1], &items[2], &items[3]))
+    if parts.len() == 2 {
+        Some((&parts[0], &parts[1]))
     } else {
         None
     }
 }
 
-/// The elements of an array of five.
-pub fn five(value: &Value) -> Option<(&Value, &Value, &Value, &Value, &Value)>
-    ensures some { IfSome result (λ t. view value.now ≡ list (view t.0.now ∷ view t.1.now ∷ view t.2.now ∷ view t.3.now ∷ view t.4.now ∷ [])) }
-    ensures none { IfNone result ((a b c d e : Data) → view value.now ≢ list (a ∷ b ∷ c ∷ d ∷ e ∷ [])) }
+/// The parts, where there are three.
+pub fn three(parts: &[Value]) -> Option<(&Value, &Value, &Value)>
+    ensures some { IfSome result (λ t. list (map view parts.now) ≡ list (view t.0.now ∷ view t.1.now ∷ view t.2.now ∷ [])) }
+    ensures none { IfNone result ((first a b c : Data) → list (first ∷ map view parts.now) ≢ list (first ∷ a ∷ b ∷ c ∷ [])) }
 {
-    let items = elements(value)?;
-    if items.len() == 5 {
-        Some((&items[0], &items[1], &items[2], &items[3], &items[4]))
+    if parts.len() == 3 {
+        Some((&parts[0], &parts[1], &parts[2]))
     } else {
         None
     }
 }
 
-/// The elements of an array of six.
-pub fn six(value: &Value) -> Option<(&Value, &Value, &Value, &Value, &Value, &Value)>
-    ensures some { IfSome result (λ t. view value.now ≡ list (view t.0.now ∷ view t.1.now ∷ view t.2.now ∷ view t.3.now ∷ view t.4.now ∷ view t.5.now ∷ [])) }
-    ensures none { IfNone result ((a b c d e f : Data) → view value.now ≢ list (a ∷ b ∷ c ∷ d ∷ e ∷ f ∷ [])) }
+/// The parts, where there are four.
+pub fn four(parts: &[Value]) -> Option<(&Value, &Value, &Value, &Value)>
+    ensures some { IfSome result (λ t. list (map view parts.now) ≡ list (view t.0.now ∷ view t.1.now ∷ view t.2.now ∷ view t.3.now ∷ [])) }
+    ensures none { IfNone result ((first a b c d : Data) → list (first ∷ map view parts.now) ≢ list (first ∷ a ∷ b ∷ c ∷ d ∷ [])) }
 {
-    let items = elements(value)?;
-    if items.len() == 6 {
-        Some((
-            &items[0], &items[1], &items[2], &items[3], &items[4], &items[5],
-        ))
+    if parts.len() == 4 {
+        Some((&parts[0], &parts[1], &parts[2], &parts[3]))
     } else {
         None
     }
 }
 
-/// The elements of an array of ten.
-pub fn ten(
-    value: &Value,
+/// The parts, where there are five.
+pub fn five(parts: &[Value]) -> Option<(&Value, &Value, &Value, &Value, &Value)>
+    ensures some { IfSome result (λ t. list (map view parts.now) ≡ list (view t.0.now ∷ view t.1.now ∷ view t.2.now ∷ view t.3.now ∷ view t.4.now ∷ [])) }
+    ensures none { IfNone result ((first a b c d e : Data) → list (first ∷ map view parts.now) ≢ list (first ∷ a ∷ b ∷ c ∷ d ∷ e ∷ [])) }
+{
+    if parts.len() == 5 {
+        Some((&parts[0], &parts[1], &parts[2], &parts[3], &parts[4]))
+    } else {
+        None
+    }
+}
+
+/// The parts, where there are nine.
+pub fn nine(
+    parts: &[Value],
 ) -> Option<
     (
         &Value,
@@ -111,28 +110,19 @@ pub fn ten(
         &Value,
         &Value,
         &Value,
-        &Value,
     ),
 >
-    ensures some { IfSome result (λ t. view value.now ≡ list (view t.0.now ∷ view t.1.now ∷ view t.2.now ∷ view t.3.now ∷ view t.4.now ∷ view t.5.now ∷ view t.6.now ∷ view t.7.now ∷ view t.8.now ∷ view t.9.now ∷ [])) }
-    ensures none { IfNone result ((a b c d e f g h i j : Data) → view value.now ≢ list (a ∷ b ∷ c ∷ d ∷ e ∷ f ∷ g ∷ h ∷ i ∷ j ∷ [])) }
+    ensures some { IfSome result (λ t. list (map view parts.now) ≡ list (view t.0.now ∷ view t.1.now ∷ view t.2.now ∷ view t.3.now ∷ view t.4.now ∷ view t.5.now ∷ view t.6.now ∷ view t.7.now ∷ view t.8.now ∷ [])) }
+    ensures none { IfNone result ((first a b c d e f g h i : Data) → list (first ∷ map view parts.now) ≢ list (first ∷ a ∷ b ∷ c ∷ d ∷ e ∷ f ∷ g ∷ h ∷ i ∷ [])) }
 {
-    let items = elements(value)?;
-    if items.len() == 10 {
+    if parts.len() == 9 {
         Some((
-            &items[0], &items[1], &items[2], &items[3], &items[4], &items[5], &items[6], &items[7],
-            &items[8], &items[9],
+            &parts[0], &parts[1], &parts[2], &parts[3], &parts[4], &parts[5], &parts[6], &parts[7],
+            &parts[8],
         ))
     } else {
         None
     }
-}
-
-/// Whether this is a text.
-pub fn is_text(value: &Value, wanted: &str) -> bool
-    ensures { IsTrue result ↔ (view value.now ≡ text wanted.now) }
-{
-    value.as_str() == Some(wanted)
 }
 
 /// A text.
@@ -186,95 +176,6 @@ pub fn whole_number_of(value: &Value) -> Option<i64>
     match value {
         Value::Number(number) => number.as_i64(),
         _ => None,
-    }
-}
-
-/// What follows a word, where this is just one value.
-pub fn one_after<'a>(value: &'a Value, word: &str) -> Option<&'a Value>
-    ensures some { IfSome result (λ a. view value.now ≡ list (text word.now ∷ view a.now ∷ [])) }
-    ensures none { IfNone result ((a : Data) → view value.now ≢ list (text word.now ∷ a ∷ [])) }
-{
-    match two(value) {
-        Some((first, a)) if is_text(first, word) => Some(a),
-        _ => None,
-    }
-}
-
-/// What follows a word, where these are just two values.
-pub fn two_after<'a>(value: &'a Value, word: &str) -> Option<(&'a Value, &'a Value)>
-    ensures some { IfSome result (λ t. view value.now ≡ list (text word.now ∷ view t.0.now ∷ view t.1.now ∷ [])) }
-    ensures none { IfNone result ((a b : Data) → view value.now ≢ list (text word.now ∷ a ∷ b ∷ [])) }
-{
-    match three(value) {
-        Some((first, a, b)) if is_text(first, word) => Some((a, b)),
-        _ => None,
-    }
-}
-
-/// What follows a word, where these are just three values.
-pub fn three_after<'a>(value: &'a Value, word: &str) -> Option<(&'a Value, &'a Value, &'a Value)>
-    ensures some { IfSome result (λ t. view value.now ≡ list (text word.now ∷ view t.0.now ∷ view t.1.now ∷ view t.2.now ∷ [])) }
-    ensures none { IfNone result ((a b c : Data) → view value.now ≢ list (text word.now ∷ a ∷ b ∷ c ∷ [])) }
-{
-    match four(value) {
-        Some((first, a, b, c)) if is_text(first, word) => Some((a, b, c)),
-        _ => None,
-    }
-}
-
-/// What follows a word, where these are just four values.
-pub fn four_after<'a>(
-    value: &'a Value,
-    word: &str,
-) -> Option<(&'a Value, &'a Value, &'a Value, &'a Value)>
-    ensures some { IfSome result (λ t. view value.now ≡ list (text word.now ∷ view t.0.now ∷ view t.1.now ∷ view t.2.now ∷ view t.3.now ∷ [])) }
-    ensures none { IfNone result ((a b c d : Data) → view value.now ≢ list (text word.now ∷ a ∷ b ∷ c ∷ d ∷ [])) }
-{
-    match five(value) {
-        Some((first, a, b, c, d)) if is_text(first, word) => Some((a, b, c, d)),
-        _ => None,
-    }
-}
-
-/// What follows a word, where these are just five values.
-pub fn five_after<'a>(
-    value: &'a Value,
-    word: &str,
-) -> Option<(&'a Value, &'a Value, &'a Value, &'a Value, &'a Value)>
-    ensures some { IfSome result (λ t. view value.now ≡ list (text word.now ∷ view t.0.now ∷ view t.1.now ∷ view t.2.now ∷ view t.3.now ∷ view t.4.now ∷ [])) }
-    ensures none { IfNone result ((a b c d e : Data) → view value.now ≢ list (text word.now ∷ a ∷ b ∷ c ∷ d ∷ e ∷ [])) }
-{
-    match six(value) {
-        Some((first, a, b, c, d, e)) if is_text(first, word) => Some((a, b, c, d, e)),
-        _ => None,
-    }
-}
-
-/// What follows a word, where these are just nine values.
-pub fn nine_after<'a>(
-    value: &'a Value,
-    word: &str,
-) -> Option<
-    (
-        &'a Value,
-        &'a Value,
-        &'a Value,
-        &'a Value,
-        &'a Value,
-        &'a Value,
-        &'a Value,
-        &'a Value,
-        &'a Value,
-    ),
->
-    ensures some { IfSome result (λ t. view value.now ≡ list (text word.now ∷ view t.0.now ∷ view t.1.now ∷ view t.2.now ∷ view t.3.now ∷ view t.4.now ∷ view t.5.now ∷ view t.6.now ∷ view t.7.now ∷ view t.8.now ∷ [])) }
-    ensures none { IfNone result ((a b c d e f g h i : Data) → view value.now ≢ list (text word.now ∷ a ∷ b ∷ c ∷ d ∷ e ∷ f ∷ g ∷ h ∷ i ∷ [])) }
-{
-    let (first, a, b, c, d, e, f, g, h, i) = ten(value)?;
-    if is_text(first, word) {
-        Some((a, b, c, d, e, f, g, h, i))
-    } else {
-        None
     }
 }
 

@@ -5,7 +5,7 @@ ghost use Rattle.ps_document.specs.Words.{function_word, is_left_out_kind, join_
 
 use ps_frame::expr::{FunctionExpr, Operator, What};
 use ps_frame::value::DataType;
-use ps_plan::ir::{JoinType, JoinValidation, SinkType, UniqueKeepStrategy};
+use ps_meaning::options::{JoinType, JoinValidation, SinkType, UniqueKeepStrategy};
 
 /// The kind of a word.
 pub fn kind_of(word: &str) -> Option<DataType>

@@ -1,4 +1,3 @@
 mod Running
-mod Unbroken
 mod Walking
 mod Wanting

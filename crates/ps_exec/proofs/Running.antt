@@ -4,7 +4,7 @@ use Rattle.std.specs.Prelude.{Contains, Err, IfErr, IfOk, Ok, Result}
 use Rattle.std.specs.List.{All}
 use Rattle.std.proofs.lemmas.List.{append-nil}
 use Rattle.std.proofs.lemmas.Option.{slice_get-get_or}
-use Rattle.pu_index.specs.declared.arena.Node.{Node}
+use Rattle.pu_base.specs.declared.arena.Node.{Node}
 use Rattle.ps_frame.specs.Functions.{Functions}
 use Rattle.ps_frame.specs.Tables.{Frame, whole}
 use Rattle.ps_frame.specs.declared.expr.AExpr.{AExpr}
@@ -12,11 +12,13 @@ use Rattle.ps_frame.specs.declared.refusal.PolarsError.{PolarsError}
 use Rattle.ps_frame.specs.declared.refusal.PolarsError.TheVariants as error
 use Rattle.ps_frame.specs.declared.refusal.Why.{Why}
 use Rattle.ps_frame.specs.declared.value.DataFault.{DataFault}
-use Rattle.ps_plan.specs.Errors.{fault_error, refusal_error}
+use Rattle.ps_meaning.specs.Errors.{fault_error, refusal_error}
 use Rattle.ps_plan.specs.Graph.{here, inputs_at, onward}
-use Rattle.ps_plan.specs.Meaning.{IsMeaning, NodeMayFault}
+use Rattle.ps_meaning.specs.Meaning.{IsMeaning}
+use Rattle.ps_plan.specs.PlanMeanings.{NodeMayFault}
 use Rattle.ps_plan.specs.Plans.{Plan, tree_of}
-use Rattle.ps_plan.specs.Refusals.{IsRefused, IsValid, Refusal, invalid_plan}
+use Rattle.ps_meaning.specs.StepRefusals.{Refusal, invalid_plan}
+use Rattle.ps_plan.specs.Refusals.{IsRefused, IsValid}
 use Rattle.ps_plan.specs.declared.ir.IR.{IR}
 use Rattle.ps_survey.proofs.Lists.{from-at}
 use Rattle.ps_survey.specs.Flaws.{plan_of}

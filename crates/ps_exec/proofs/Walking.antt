@@ -6,20 +6,21 @@ use Rattle.std.proofs.Math.Seq.{take-length}
 use Rattle.std.proofs.lemmas.List.{length-replicate}
 use Rattle.std.proofs.lemmas.List.Elements.{Contains-append_cases}
 use Rattle.std.proofs.lemmas.Option.{get_or_from_slice_get, slice_get-get_or, slice_get-map, slice_get_within}
-use Rattle.pu_index.specs.declared.arena.Node.{Node}
+use Rattle.pu_base.specs.declared.arena.Node.{Node}
 use Rattle.ps_frame.specs.Functions.{Functions}
 use Rattle.ps_frame.specs.Tables.{Frame, whole}
 use Rattle.ps_frame.specs.Trees.{tree_at}
 use Rattle.ps_frame.specs.declared.refusal.PolarsError.{PolarsError}
 use Rattle.ps_frame.specs.declared.refusal.PolarsError.TheVariants as error
 use Rattle.ps_frame.specs.declared.value.DataFault.{DataFault}
-use Rattle.ps_plan.specs.Errors.{fault_error}
+use Rattle.ps_meaning.specs.Errors.{fault_error}
 use Rattle.ps_plan.specs.Graph.{Path, Reached, here, onward, inputs_at, named_by}
-use Rattle.ps_plan.specs.Meaning.{IsMeaning, NodeMayFault}
-use Rattle.ps_plan.specs.Nodes.{GivesFrame, IsFaultAt, MayFault}
+use Rattle.ps_meaning.specs.Meaning.{IsMeaning}
+use Rattle.ps_plan.specs.PlanMeanings.{NodeMayFault}
+use Rattle.ps_meaning.specs.Nodes.{GivesFrame, IsFaultAt, MayFault}
 use Rattle.ps_plan.specs.Plans.{Plan, tree_of}
 use Rattle.ps_plan.specs.Refusals.{IsValid}
-use Rattle.ps_plan.specs.Steps.{entry_inputs, entry_step}
+use Rattle.ps_plan.specs.Entries.{entry_inputs, entry_step}
 use Rattle.ps_plan.specs.declared.ir.IR.{IR}
 use Rattle.ps_survey.proofs.Lists.{at-from, from-at, same-or-not, slice_get-set_other, slice_get-set_same}
 use Rattle.ps_survey.specs.Surveys.{IsSurvey}
@@ -30,7 +31,7 @@ use Rattle.ps_walks.proofs.Walks.{faults-answer, tables-mean}
 use Rattle.ps_survey.proofs.Visits.{take-push}
 use Rattle.ps_exec.proofs.Wanting.{numbers}
 use Rattle.ps_exec.specs.Held.{AreHeld, Held, IsHeld, table_in, tables_in}
-use Rattle.ps_evaluate.specs.Nodes.{FitInputs, NodeFaults, NodeGives}
+use Rattle.ps_node_eval.specs.Nodes.{FitInputs, NodeFaults, NodeGives}
 use Rattle.ps_exec.specs.Readers.{IsWantedUntil}
 
 contains-first : {A : Type 0} (x : A) (xs : List A) → Contains (x ∷ xs) x

@@ -1,7 +1,7 @@
 -- The tables of nodes, as far as they are held.
 use Rattle.std.specs.Prelude.{◌≡◌, List, [], Option, Some, None, map, slice_get, unwrap_or}
 use Rattle.std.specs.List.{All}
-use Rattle.pu_index.specs.declared.arena.Node.{Node}
+use Rattle.pu_base.specs.declared.arena.Node.{Node}
 use Rattle.ps_frame.specs.Tables.{Frame}
 
 -- a table for each number of a node, or none

@@ -1,4 +1,3 @@
-pub mod Examples
 pub mod Held
 pub mod Queries
 pub mod Readers

@@ -6,10 +6,12 @@ use Rattle.ps_frame.specs.declared.expr.AExpr.{AExpr}
 use Rattle.ps_frame.specs.declared.refusal.PolarsError.{PolarsError}
 use Rattle.ps_frame.specs.declared.refusal.PolarsError.TheVariants as error
 use Rattle.ps_frame.specs.declared.value.DataFault.{DataFault}
-use Rattle.ps_plan.specs.Errors.{fault_error, refusal_error}
-use Rattle.ps_plan.specs.Meaning.{IsWholeMeaning, NodeMayFault}
+use Rattle.ps_meaning.specs.Errors.{fault_error, refusal_error}
+use Rattle.ps_meaning.specs.Meaning.{IsWholeMeaning}
+use Rattle.ps_plan.specs.PlanMeanings.{NodeMayFault}
 use Rattle.ps_plan.specs.Plans.{Plan, tree_of}
-use Rattle.ps_plan.specs.Refusals.{IsRefused, IsValid, Refusal}
+use Rattle.ps_meaning.specs.StepRefusals.{Refusal}
+use Rattle.ps_plan.specs.Refusals.{IsRefused, IsValid}
 
 -- the plan is valid, and the table is a whole one that its root means
 pub record IsQueryAnswer (F : Functions) (plan : Plan) (f : Frame) : Type 0 where

@@ -1,10 +1,10 @@
 // The nodes that an entry reads.
 ghost use Rattle.std.specs.Prelude.{◌≡◌, IfOk, OnErr, Err};
-ghost use Rattle.ps_plan.specs.Steps.{entry_inputs};
+ghost use Rattle.ps_plan.specs.Entries.{entry_inputs};
 
 use ps_frame::refusal::{PolarsError, PolarsResult};
 use ps_plan::ir::IR;
-use pu_index::Node;
+use pu_base::Node;
 use std::alloc::Global;
 
 /// The inputs of an entry, in order.

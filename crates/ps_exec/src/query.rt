@@ -3,7 +3,6 @@ ghost use Rattle.std.specs.Prelude.{◌≡◌, ◌++◌, ◌<◌, List, IfErr, I
 ghost use Rattle.ps_frame.specs.declared.expr.AExpr.{AExpr as Expr};
 ghost use Rattle.ps_survey.specs.Flaws.{plan_of};
 ghost use Rattle.ps_survey.specs.Surveys.{IsSurvey};
-ghost use Rattle.ps_tables.specs.Called.{functions_of};
 ghost use Rattle.ps_validate.specs.Valid.{IsValidWith, plan_with};
 ghost use Rattle.ps_exec.specs.Queries.{BeginsWith, IsQueryAnswer, IsQueryError};
 
@@ -14,12 +13,11 @@ use ps_frame::expr::AExpr;
 use ps_frame::frame::DataFrame;
 use ps_frame::functions::Functions;
 use ps_frame::refusal::PolarsResult;
-use ps_nodes::options::Options;
+use ps_options::options::Options;
 use ps_plan::ir::IR;
 use ps_survey::survey::survey_plan;
 use ps_validate::validate::{Valid, validate};
-use pu_index::{Arena, Node};
-use pu_order::Steps;
+use pu_base::{Arena, Node, Steps};
 use std::alloc::Global;
 use std::marker::Brand;
 use std::sync::Wait;
@@ -43,10 +41,11 @@ pub fn run_query<R: Threads + Wait + Sync, F: Functions, G: Gate>(
     options: &Options,
 ) -> PolarsResult<Option<DataFrame>>
     ensures some { IfOk result IsSome }
-    ensures table { IfOk result (λ o. IfSome o (IsQueryAnswer (functions_of (F.counted functions.now) F.streams F.answer F.declared) (plan_of node ir_arena.items expr_arena.old.items))) }
-    ensures error { IfErr result (IsQueryError (functions_of (F.counted functions.now) F.streams F.answer F.declared) (plan_of node ir_arena.items expr_arena.old.items)) }
+    ensures table { IfOk result (λ o. IfSome o (IsQueryAnswer (F.told functions.now) (plan_of node ir_arena.items expr_arena.old.items))) }
+    ensures error { IfErr result (IsQueryError (F.told functions.now) (plan_of node ir_arena.items expr_arena.old.items)) }
     ensures exprs { BeginsWith expr_arena.old.items expr_arena.new.items }
 {
+    // Not used yet: no piece is cut, so no worker claims one.
     let _rt = rt;
     let _gate = gate;
     let _options = options;
@@ -63,10 +62,11 @@ pub fn run_query_serial<F: Functions>(
     options: &Options,
 ) -> PolarsResult<Option<DataFrame>>
     ensures some { IfOk result IsSome }
-    ensures table { IfOk result (λ o. IfSome o (IsQueryAnswer (functions_of (F.counted functions.now) F.streams F.answer F.declared) (plan_of node ir_arena.items expr_arena.old.items))) }
-    ensures error { IfErr result (IsQueryError (functions_of (F.counted functions.now) F.streams F.answer F.declared) (plan_of node ir_arena.items expr_arena.old.items)) }
+    ensures table { IfOk result (λ o. IfSome o (IsQueryAnswer (F.told functions.now) (plan_of node ir_arena.items expr_arena.old.items))) }
+    ensures error { IfErr result (IsQueryError (F.told functions.now) (plan_of node ir_arena.items expr_arena.old.items)) }
     ensures exprs { BeginsWith expr_arena.old.items expr_arena.new.items }
 {
+    // Not used yet: no piece is cut.
     let _options = options;
     answer_of(alloc, node, ir_arena, expr_arena, functions)
 }
@@ -79,9 +79,10 @@ fn answer_of<F: Functions>(
     functions: &F,
 ) -> PolarsResult<Option<DataFrame>>
     ensures some { IfOk result IsSome }
-    ensures table { IfOk result (λ o. IfSome o (IsQueryAnswer (functions_of (F.counted functions.now) F.streams F.answer F.declared) (plan_of node ir.items exprs.now.items))) }
-    ensures error { IfErr result (IsQueryError (functions_of (F.counted functions.now) F.streams F.answer F.declared) (plan_of node ir.items exprs.now.items)) }
+    ensures table { IfOk result (λ o. IfSome o (IsQueryAnswer (F.told functions.now) (plan_of node ir.items exprs.now.items))) }
+    ensures error { IfErr result (IsQueryError (F.told functions.now) (plan_of node ir.items exprs.now.items)) }
 {
+    // A match and no `?`: so the clause of the error is handed on as it stands.
     match table_of::<F, Brand>(alloc, Blank::new(1), node, ir, exprs, functions) {
         Ok(table) => Ok(Some(table)),
         Err(error) => Err(error),
@@ -99,10 +100,11 @@ fn table_of<F: Functions, L: Ledger>(
     requires name { blank.name ≡ L.name }
     requires parts { blank.parts ≡ L.parts }
     requires some { 0 < L.parts }
-    ensures table { IfOk result (IsQueryAnswer (functions_of (F.counted functions.now) F.streams F.answer F.declared) (plan_of root ir.items exprs.now.items)) }
-    ensures error { IfErr result (IsQueryError (functions_of (F.counted functions.now) F.streams F.answer F.declared) (plan_of root ir.items exprs.now.items)) }
+    ensures table { IfOk result (IsQueryAnswer (F.told functions.now) (plan_of root ir.items exprs.now.items)) }
+    ensures error { IfErr result (IsQueryError (F.told functions.now) (plan_of root ir.items exprs.now.items)) }
 {
     let mut steps = Steps::<L>::new(blank);
+    // A match and no `?`: so the clause of the error is handed on as it stands.
     match validate(alloc, root, ir, exprs, functions, &mut steps) {
         Ok(valid) => run(alloc, &valid, exprs, functions, &mut steps),
         Err(error) => Err(error),
@@ -117,10 +119,11 @@ fn run<F: Functions, L: Ledger>(
     functions: &F,
     steps: &mut Steps<L>,
 ) -> PolarsResult<DataFrame>
-    requires { IsValidWith (functions_of (F.counted functions.now) F.streams F.answer F.declared) valid.now exprs.now.items }
-    ensures table { IfOk result (IsQueryAnswer (functions_of (F.counted functions.now) F.streams F.answer F.declared) (plan_with valid.now exprs.now.items)) }
-    ensures error { IfErr result (IsQueryError (functions_of (F.counted functions.now) F.streams F.answer F.declared) (plan_with valid.now exprs.now.items)) }
+    requires { IsValidWith (F.told functions.now) valid.now exprs.now.items }
+    ensures table { IfOk result (IsQueryAnswer (F.told functions.now) (plan_with valid.now exprs.now.items)) }
+    ensures error { IfErr result (IsQueryError (F.told functions.now) (plan_with valid.now exprs.now.items)) }
 {
+    // A match and no `?`: so the clause of the error is handed on as it stands.
     match survey_plan(alloc, valid.root(), valid.ir(), exprs, steps) {
         Ok(survey) => run_in_order(alloc, valid, exprs, functions, survey.order()),
         Err(error) => Err(error),
@@ -134,11 +137,12 @@ fn run_in_order<F: Functions>(
     functions: &F,
     order: &[usize],
 ) -> PolarsResult<DataFrame>
-    requires valid { IsValidWith (functions_of (F.counted functions.now) F.streams F.answer F.declared) valid.now exprs.now.items }
+    requires valid { IsValidWith (F.told functions.now) valid.now exprs.now.items }
     requires survey { IsSurvey (plan_with valid.now exprs.now.items) order.now }
-    ensures table { IfOk result (IsQueryAnswer (functions_of (F.counted functions.now) F.streams F.answer F.declared) (plan_with valid.now exprs.now.items)) }
-    ensures error { IfErr result (IsQueryError (functions_of (F.counted functions.now) F.streams F.answer F.declared) (plan_with valid.now exprs.now.items)) }
+    ensures table { IfOk result (IsQueryAnswer (F.told functions.now) (plan_with valid.now exprs.now.items)) }
+    ensures error { IfErr result (IsQueryError (F.told functions.now) (plan_with valid.now exprs.now.items)) }
 {
+    // A match and no `?`: so the clause of the error is handed on as it stands.
     match last_readers(alloc, valid.root(), order, valid.ir()) {
         Ok(until) => walk(alloc, valid, exprs, functions, order, until.as_slice()),
         Err(error) => Err(error),

@@ -7,7 +7,7 @@ ghost use Rattle.ps_exec.specs.Readers.{IsWantedUntil};
 use crate::inputs::inputs_of;
 use ps_frame::refusal::{PolarsError, PolarsResult};
 use ps_plan::ir::IR;
-use pu_index::{Arena, Node};
+use pu_base::{Arena, Node};
 use std::alloc::Global;
 
 /// For each node the place in the order of the last node that reads it; for the root the end of the order.

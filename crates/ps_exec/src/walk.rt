@@ -3,23 +3,22 @@ ghost use Rattle.std.specs.Prelude.{◌≡◌, ◌≤◌, ◌<◌, IfErr, IfOk, 
 ghost use Rattle.std.specs.List.{All};
 ghost use Rattle.ps_frame.specs.Tables.{whole};
 ghost use Rattle.ps_plan.specs.Graph.{inputs_at};
-ghost use Rattle.ps_plan.specs.Meaning.{IsMeaning};
+ghost use Rattle.ps_meaning.specs.Meaning.{IsMeaning};
 ghost use Rattle.ps_plan.specs.Plans.{tree_of};
 ghost use Rattle.ps_survey.specs.Surveys.{IsSurvey};
-ghost use Rattle.ps_tables.specs.Called.{functions_of};
 ghost use Rattle.ps_validate.specs.Valid.{IsValidWith, plan_with};
 ghost use Rattle.ps_exec.specs.Queries.{IsRunError};
 ghost use Rattle.ps_exec.specs.Readers.{IsWantedUntil};
 
+use crate::held_tables::HeldTables;
 use crate::inputs::inputs_of;
-use crate::tables::Tables;
-use ps_evaluate::node::evaluate_node;
 use ps_frame::expr::AExpr;
 use ps_frame::frame::DataFrame;
 use ps_frame::functions::Functions;
 use ps_frame::refusal::PolarsResult;
+use ps_node_eval::node::evaluate_node;
 use ps_validate::validate::Valid;
-use pu_index::{Arena, Node};
+use pu_base::{Arena, Node};
 use std::alloc::Global;
 
 /// The table of a valid plan's root. A table is let go as soon as the last node that reads it has it.
@@ -33,15 +32,15 @@ pub(crate) fn walk<F: Functions>(
     order: &[usize],
     until: &[usize],
 ) -> PolarsResult<DataFrame>
-    requires valid { IsValidWith (functions_of (F.counted functions.now) F.streams F.answer F.declared) valid.now exprs.now.items }
+    requires valid { IsValidWith (F.told functions.now) valid.now exprs.now.items }
     requires survey { IsSurvey (plan_with valid.now exprs.now.items) order.now }
     requires size { length until.now ≡ length valid.now.nodes }
     requires wanted { IsWantedUntil (inputs_at (plan_with valid.now exprs.now.items)) order.now until.now }
     requires root { length order.now ≤ get_or until.now valid.now.root.0 0 }
-    ensures table { IfOk result (λ f. IsMeaning (functions_of (F.counted functions.now) F.streams F.answer F.declared) (tree_of (plan_with valid.now exprs.now.items) valid.now.root.0) (whole f)) }
-    ensures fault { IfErr result (λ e. IsRunError (functions_of (F.counted functions.now) F.streams F.answer F.declared) (plan_with valid.now exprs.now.items) e) }
+    ensures table { IfOk result (λ f. IsMeaning (F.told functions.now) (tree_of (plan_with valid.now exprs.now.items) valid.now.root.0) (whole f)) }
+    ensures fault { IfErr result (λ e. IsRunError (F.told functions.now) (plan_with valid.now exprs.now.items) e) }
 {
-    let mut tables = Tables::new(alloc, valid.ir().len())?;
+    let mut tables = HeldTables::new(alloc, valid.ir().len())?;
     for (place, node) in order.iter().enumerate() {
         let node = Node(*node);
         let inputs = inputs_of(alloc, valid.ir().get(node))?;

@@ -2,19 +2,19 @@
 use Rattle.std.proofs.Common.{◌≡◌, ℕ, zero, suc, ◌<◌, ◌≤◌, List, [], ◌∷◌, ◌++◌, ◌+◌, length, take, drop, replicate, get_or, Bool, true, false, refl, sym, ◌∙◌, ap, subst, add-one, arith}
 use native.Mathlib.Decide.{dec_lt}
 use mathlib.Core.Logic.{dite}
-use Rattle.std.specs.Prelude.{map, slice_get, option_map, IfSome, IsTrue, Option, Some, None, if◌then◌else◌, count_by}
+use Rattle.std.specs.Prelude.{map, slice_get, option_map, IfSome, IsTrue, Option, Some, None, if◌then◌else◌}
 use Rattle.std.specs.List.{All, AllByRecursion, list_all}
 use Rattle.std.proofs.lemmas.List.{drop-map, get_or-map, get_or_append_left, get_or_at, length-append, length-map, take-map}
 use Rattle.std.proofs.lemmas.List.Elements.{All-drop, All-from_recursion, All-map, All-take, recursion_from_All}
 use Rattle.std.proofs.lemmas.Option.{get_or_from_slice_get, same_Some, slice_get-map}
 use Rattle.ps_frame.proofs.Lists.{and_both, both}
-use Rattle.ps_frame.proofs.Masks.{kept-all, length-kept, trues-le-length}
+use Rattle.ps_frame.proofs.Masks.{length-kept, trues-le-length}
 use Rattle.ps_frame.proofs.Rows.{length-rows_of}
-use Rattle.ps_frame.specs.Frames.{AllOfHeight, IsFrame, column_values, kept, kept_of, part_of}
+use Rattle.ps_frame.specs.Frames.{AllOfHeight, IsFrame, column_values, kept, part_of}
 use Rattle.ps_frame.specs.Aggregates.{max_rows}
 use Rattle.ps_frame.specs.Gathered.{gathered, picked, rows_at, true_rows, value_or_null}
 use Rattle.ps_frame.specs.Tables.{Fields, beside, rows_of}
-use Rattle.ps_frame.specs.Typed.{Typed}
+use Rattle.ps_frame.specs.Series.{Series}
 use Rattle.ps_frame.specs.Values.{is_true}
 use Rattle.ps_frame.specs.Zip.{below}
 use Rattle.ps_frame.specs.declared.value.DataType.{DataType}
@@ -104,18 +104,18 @@ within-below : (n : ℕ) → AllByRecursion (λ i. i < n) (below n)
 within-below n = recursion_from_All (λ i. i < n) (below n) (λ k d l. let e : get_or (below n) k d ≡ k = get_or-below n k d (let f = length-below n in omega arith) in let f = length-below n in omega arith)
 
 -- a column by its kind and values
-abbrev typed : DataType → List Value → Typed
+abbrev typed : DataType → List Value → Series
 typed k vs = record { kind = k; values = vs }
 
 -- a part of a column that picks from a run, and what stands at places of it
-module _ (k : DataType) (run : List Value) (places : Option (List ℕ)) (ps : List ℕ) (c : Typed) where
+module _ (k : DataType) (run : List Value) (places : Option (List ℕ)) (ps : List ℕ) (c : Series) where
   pub column-part : (o n : ℕ) (new : List ℕ) → typed k (picked places run) ≡ c → places ≡ Some ps → new ≡ take n (drop o ps) → typed k (map (λ i. get_or run i val.Null) new) ≡ part_of o n c
   column-part o n new view is made =
       ap (λ ns. typed k (map (λ i. get_or run i val.Null) ns)) made ∙ ap (typed k) (picked-part o n run ps)
       ∙ ap (λ q. part_of o n (typed k (picked q run))) (sym is) ∙ ap (part_of o n) view
 
   column-length : typed k (picked places run) ≡ c → places ≡ Some ps → length c.values ≡ length ps
-  column-length view is = ap (λ (t : Typed). length t.values) (sym view) ∙ ap (λ q. length (picked q run)) is ∙ length-map ps (λ i. get_or run i val.Null)
+  column-length view is = ap (λ (t : Series). length t.values) (sym view) ∙ ap (λ q. length (picked q run)) is ∙ length-map ps (λ i. get_or run i val.Null)
 
   rows-within : (rows : List ℕ) → typed k (picked places run) ≡ c → places ≡ Some ps → All (λ i. i < length c.values) rows → All (λ i. i < length ps) rows
   rows-within rows view is h = subst (λ n. All (λ i. i < n) rows) (column-length view is) h
@@ -131,7 +131,7 @@ module _ (k : DataType) (run : List Value) (places : Option (List ℕ)) (ps : Li
       subst (λ (ns : List ℕ). All (λ i. i < length run) ns) (sym made) (within-through (length run) ps rows there (rows-within rows view is h))
 
 -- what stands at places of a column, once these are known
-pub gathered-firsts : (c : Typed) (n : ℕ) (places : List ℕ) → places ≡ replicate n 0 → gathered places c ≡ typed c.kind (replicate n (get_or c.values 0 val.Null))
+pub gathered-firsts : (c : Series) (n : ℕ) (places : List ℕ) → places ≡ replicate n 0 → gathered places c ≡ typed c.kind (replicate n (get_or c.values 0 val.Null))
 gathered-firsts c n places e = ap (λ ps. gathered ps c) e ∙ ap (typed c.kind) (picked-firsts c.values n)
 
 -- what a mask keeps of what a function makes of a list
@@ -185,13 +185,6 @@ pub within-true_rows : (ms : List Value) (n : ℕ) → length ms ≡ n → All (
 within-true_rows ms n e =
     All-from_recursion (λ i. i < n) (true_rows ms) (each-kept (λ i. i < n) ms (below (length ms)) (subst (λ k. AllByRecursion (λ i. i < k) (below (length ms))) e (within-below (length ms))))
 
-pub gathered-true_rows : (ms : List Value) (c : Typed) (places : List ℕ) → length ms ≡ length c.values → places ≡ true_rows ms → gathered places c ≡ kept_of ms c
-gathered-true_rows ms c places e is = ap (λ ps. gathered ps c) is ∙ ap (typed c.kind) (kept-true_rows ms c.values val.Null e)
-
--- a mask of which each value is true keeps a column
-pub kept_of-all : (ms : List Value) (c : Typed) → count_by is_true ms ≡ length ms → length ms ≡ length c.values → kept_of ms c ≡ c
-kept_of-all ms c e h = ap (typed c.kind) (kept-all ms c.values e h)
-
 -- there are at most as many rows as the mask has values
 pub few-true_rows : (ms : List Value) (n : ℕ) → length ms ≤ n → length (true_rows ms) ≤ n
 few-true_rows ms n h = let e = length-kept ms (below (length ms)) (sym (length-below (length ms))) in let few = trues-le-length ms in omega arith
@@ -219,7 +212,7 @@ rows_at-replicate : (places : List ℕ) (n : ℕ) → rows_at places (replicate 
 rows_at-replicate [] n = refl
 rows_at-replicate (i ∷ places) n = ap (λ r. r ∷ rows_at places (replicate n [])) (empty-at n i) ∙ ap (λ rs. [] ∷ rs) (rows_at-replicate places n)
 
-rows_of-each : (places : List ℕ) (h : ℕ) (cs : List Typed) → AllOfHeight h cs → AllByRecursion (λ i. i < h) places
+rows_of-each : (places : List ℕ) (h : ℕ) (cs : List Series) → AllOfHeight h cs → AllByRecursion (λ i. i < h) places
     → rows_of (length places) (column_values (map (gathered places) cs)) ≡ rows_at places (rows_of h (column_values cs))
 rows_of-each places h [] p q = sym (rows_at-replicate places h)
 rows_of-each places h (c ∷ cs) p q =
@@ -228,18 +221,18 @@ rows_of-each places h (c ∷ cs) p q =
     ∙ sym (rows_at-beside places c.values (rows_of h (column_values cs)) (p.0 ∙ sym (length-rows_of h cs p.1)) there)
 
 -- the rows of what stands at places of the columns
-pub rows_of-gathered : (places : List ℕ) (h : ℕ) (cs : List Typed) → AllOfHeight h cs → All (λ i. i < h) places
+pub rows_of-gathered : (places : List ℕ) (h : ℕ) (cs : List Series) → AllOfHeight h cs → All (λ i. i < h) places
     → rows_of (length places) (column_values (map (gathered places) cs)) ≡ rows_at places (rows_of h (column_values cs))
 rows_of-gathered places h cs p q = rows_of-each places h cs p (recursion_from_All (λ i. i < h) places q)
 
 -- their kinds and heights
-kinds-gathered : (places : List ℕ) (cs : List Typed) → map (λ (c : Typed). c.kind) (map (gathered places) cs) ≡ map (λ (c : Typed). c.kind) cs
+kinds-gathered : (places : List ℕ) (cs : List Series) → map (λ (c : Series). c.kind) (map (gathered places) cs) ≡ map (λ (c : Series). c.kind) cs
 kinds-gathered places [] = refl
 kinds-gathered places (c ∷ cs) = ap (λ ks. c.kind ∷ ks) (kinds-gathered places cs)
 
-heights-gathered : (places : List ℕ) (cs : List Typed) → AllOfHeight (length places) (map (gathered places) cs)
+heights-gathered : (places : List ℕ) (cs : List Series) → AllOfHeight (length places) (map (gathered places) cs)
 heights-gathered places [] = tt
 heights-gathered places (c ∷ cs) = (length-map places (λ i. get_or c.values i val.Null), heights-gathered places cs)
 
-pub frame-gathered : (schema : Fields) (places : List ℕ) (cs : List Typed) (h : ℕ) → IsFrame schema cs h → length places ≤ max_rows → IsFrame schema (map (gathered places) cs) (length places)
+pub frame-gathered : (schema : Fields) (places : List ℕ) (cs : List Series) (h : ℕ) → IsFrame schema cs h → length places ≤ max_rows → IsFrame schema (map (gathered places) cs) (length places)
 frame-gathered schema places cs h f small = record { kinds = kinds-gathered places cs ∙ f.kinds; heights = heights-gathered places cs; small = small }

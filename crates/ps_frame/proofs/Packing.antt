@@ -9,7 +9,7 @@ use Rattle.ps_frame.proofs.Gathers.{below-places, take-value}
 use Rattle.ps_frame.specs.Frames.{above}
 use Rattle.ps_frame.specs.Gathered.{picked, value_or_null}
 use Rattle.ps_frame.specs.Pushed.{with_value}
-use Rattle.ps_frame.specs.Typed.{Typed}
+use Rattle.ps_frame.specs.Series.{Series}
 use Rattle.ps_frame.specs.Zip.{below}
 use Rattle.ps_frame.specs.declared.value.DataType.{DataType}
 use Rattle.ps_frame.specs.declared.value.Value.{Value}
@@ -44,24 +44,24 @@ pub on_err : {T E P : Type 0} (r : Result T E) → P → OnErr r P
 on_err (Ok x) p = tt
 on_err (Err e) p = p
 
-pub was_taken : (taken : Bool) (before after new : Typed) → new ≡ (if taken then after else before) → taken ≡ true → new ≡ after
+pub was_taken : (taken : Bool) (before after new : Series) → new ≡ (if taken then after else before) → taken ≡ true → new ≡ after
 was_taken taken before after new h e = h ∙ ap (λ (t : Bool). if t then after else before) e
 
 -- a column by its kind and values
-abbrev typed : DataType → List Value → Typed
+abbrev typed : DataType → List Value → Series
 typed k vs = record { kind = k; values = vs }
 
 -- what is packed, once a value was pushed
-module _ (k : DataType) (few : List Value) (places : List ℕ) (t : Typed) (v : Value) where
+module _ (k : DataType) (few : List Value) (places : List ℕ) (t : Series) (v : Value) where
   pub packed-again : (new : List ℕ) (place : ℕ) → typed k (picked (Some places) few) ≡ t → slice_get few place ≡ Some v → new ≡ places ++ place ∷ [] → typed k (picked (Some new) few) ≡ with_value t v
   packed-again new place view there made =
-      ap (typed k) (through-push val.Null few places new place v (get_or_from_slice_get few place v val.Null there) made) ∙ ap (λ (c : Typed). with_value c v) view
+      ap (typed k) (through-push val.Null few places new place v (get_or_from_slice_get few place v val.Null there) made) ∙ ap (λ (c : Series). with_value c v) view
 
   pub packed-wider : (wide : List Value) → typed k (picked (Some places) few) ≡ t → All (λ i. i < length few) places → wide ≡ few ++ v ∷ [] → typed k (picked (Some places) wide) ≡ t
   packed-wider wide view h made = ap (typed k) (through-wider val.Null few wide v places h made) ∙ view
 
   pub packed-new : (wide : List Value) (new : List ℕ) (n : ℕ) → typed k (picked (Some places) few) ≡ t → All (λ i. i < length few) places → wide ≡ few ++ v ∷ [] → n ≡ length few → new ≡ places ++ n ∷ [] → typed k (picked (Some new) wide) ≡ with_value t v
-  packed-new wide new n view h made is more = ap (typed k) (through-new val.Null few wide v places new n h made is more) ∙ ap (λ (c : Typed). with_value c v) view
+  packed-new wide new n view h made is more = ap (typed k) (through-new val.Null few wide v places new n h made is more) ∙ ap (λ (c : Series). with_value c v) view
 
 -- values that stand each at its own place
 pub picked-in_order : (few : List Value) (places : List ℕ) → places ≡ below (length places) → length few ≡ length places → picked (Some places) few ≡ few
@@ -69,21 +69,21 @@ picked-in_order few places e h =
     ap (map (λ i. get_or few i val.Null)) (e ∙ ap below (sym h)) ∙ below-places few val.Null
 
 -- one more value of many
-pub pushed-more : (k : DataType) (vs : List Value) (i : ℕ) (v : Value) (t new : Typed) → t ≡ typed k (take i vs) → new ≡ with_value t v → slice_get vs i ≡ Some v → new ≡ typed k (take (i + 1) vs)
-pushed-more k vs i v t new before made here = made ∙ ap (λ (c : Typed). with_value c v) before ∙ ap (typed k) (sym (take-value vs i v here))
+pub pushed-more : (k : DataType) (vs : List Value) (i : ℕ) (v : Value) (t new : Series) → t ≡ typed k (take i vs) → new ≡ with_value t v → slice_get vs i ≡ Some v → new ≡ typed k (take (i + 1) vs)
+pushed-more k vs i v t new before made here = made ∙ ap (λ (c : Series). with_value c v) before ∙ ap (typed k) (sym (take-value vs i v here))
 
 -- one more value above which others stand
-pub pushed-below : (start : Typed) (vs : List Value) (i : ℕ) (v : Value) (t new : Typed) → t ≡ typed start.kind (start.values ++ take i vs) → new ≡ with_value t v → slice_get vs i ≡ Some v
+pub pushed-below : (start : Series) (vs : List Value) (i : ℕ) (v : Value) (t new : Series) → t ≡ typed start.kind (start.values ++ take i vs) → new ≡ with_value t v → slice_get vs i ≡ Some v
     → new ≡ typed start.kind (start.values ++ take (i + 1) vs)
 pushed-below start vs i v t new before made here =
-    made ∙ ap (λ (c : Typed). with_value c v) before
+    made ∙ ap (λ (c : Series). with_value c v) before
     ∙ ap (typed start.kind) (append_assoc start.values (take i vs) (v ∷ []) ∙ ap (λ ws. start.values ++ ws) (sym (take-value vs i v here)))
 
 -- one more row
-pub pushed-row : (c : Typed) (rows : List (Option ℕ)) (i : ℕ) (row d : Option ℕ) (t new : Typed) → t ≡ typed c.kind (map (λ place. value_or_null c.values place) (take i rows)) → new ≡ with_value t (value_or_null c.values row)
+pub pushed-row : (c : Series) (rows : List (Option ℕ)) (i : ℕ) (row d : Option ℕ) (t new : Series) → t ≡ typed c.kind (map (λ place. value_or_null c.values place) (take i rows)) → new ≡ with_value t (value_or_null c.values row)
     → i < length rows → row ≡ get_or rows i d → new ≡ typed c.kind (map (λ place. value_or_null c.values place) (take (i + 1) rows))
 pushed-row c rows i row d t new before made there is =
-    made ∙ ap (λ (u : Typed). with_value u (value_or_null c.values row)) before
+    made ∙ ap (λ (u : Series). with_value u (value_or_null c.values row)) before
     ∙ ap (typed c.kind) (sym (
     ap (map (λ place. value_or_null c.values place)) (take_more rows i d there)
     ∙ map-append (λ place. value_or_null c.values place) (take i rows) (get_or rows i d ∷ [])
@@ -91,5 +91,5 @@ pushed-row c rows i row d t new before made there is =
     ))
 
 -- two columns one above the other, pushed one after the other
-pub above-both : (upper lower none one two : Typed) → none ≡ typed upper.kind [] → one ≡ above none upper → two ≡ above one lower → two ≡ above upper lower
-above-both upper lower none one two e f g = g ∙ ap (λ (c : Typed). above c lower) (f ∙ ap (λ (c : Typed). above c upper) e)
+pub above-both : (upper lower none one two : Series) → none ≡ typed upper.kind [] → one ≡ above none upper → two ≡ above one lower → two ≡ above upper lower
+above-both upper lower none one two e f g = g ∙ ap (λ (c : Series). above c lower) (f ∙ ap (λ (c : Series). above c upper) e)

@@ -2,7 +2,7 @@
 use Rattle.std.proofs.Common.{◌≡◌, ℕ, zero, suc, ◌<◌, List, [], ◌∷◌, length, slice_get, Option, refl, subst, sym, ◌∙◌, ap}
 use Rattle.std.specs.Prelude.{Some, None}
 use Rattle.std.proofs.lemmas.Option.{slice_get_within}
-use Rattle.pu_index.specs.declared.arena.Node.{Node}
+use Rattle.pu_base.specs.declared.arena.Node.{Node}
 use Rattle.ps_frame.specs.Trees.{Tree, Trees, Aggregation, AreComplete, IsComplete, IsExpression, aggregate_tree, entry_tree, tree_at, tree_within, trees_of}
 use Rattle.ps_frame.specs.declared.expr.AExpr.{AExpr}
 use Rattle.ps_frame.specs.declared.expr.AExpr.TheVariants as entry

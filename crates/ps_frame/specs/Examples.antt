@@ -8,7 +8,7 @@ use Rattle.ps_frame.specs.Csv.{csv_text_of}
 use Rattle.ps_frame.specs.Eval.{eval, eval_all}
 use Rattle.ps_frame.specs.Tables.{Table}
 use Rattle.ps_frame.specs.Trees.{Aggregation, IsExpression, Tree, Trees, tree_at, tree_within}
-use Rattle.pu_index.specs.declared.arena.Node.{Node}
+use Rattle.pu_base.specs.declared.arena.Node.{Node}
 use Rattle.ps_frame.specs.declared.expr.AExpr.{AExpr}
 use Rattle.ps_frame.specs.declared.expr.AExpr.TheVariants as entry
 use Rattle.ps_frame.specs.Typing.{kind_over}

@@ -2,13 +2,13 @@
 use Rattle.std.specs.Prelude.{◌≡◌, ℕ, ◌<◌, List, [], length, map, get_or, Option, Some, None}
 use Rattle.std.specs.List.{All}
 use Rattle.ps_frame.specs.Frames.{kept}
-use Rattle.ps_frame.specs.Typed.{Typed}
+use Rattle.ps_frame.specs.Series.{Series}
 use Rattle.ps_frame.specs.Zip.{below}
 use Rattle.ps_frame.specs.declared.value.Value.{Value}
 use Rattle.ps_frame.specs.declared.value.Value.TheVariants as val
 
 -- the values of a column at these places, in this order
-abbrev pub gathered : List ℕ → Typed → Typed
+abbrev pub gathered : List ℕ → Series → Series
 gathered places c = record { kind = c.kind; values = map (λ i. get_or c.values i val.Null) places }
 
 -- the value at a place that may be there, and else null
@@ -17,7 +17,7 @@ value_or_null values None = val.Null
 value_or_null values (Some i) = get_or values i val.Null
 
 -- the same of a column, with null where there is no place
-abbrev pub gathered_or_null : List (Option ℕ) → Typed → Typed
+abbrev pub gathered_or_null : List (Option ℕ) → Series → Series
 gathered_or_null places c = record { kind = c.kind; values = map (λ place. value_or_null c.values place) places }
 
 -- the rows of a table at these places, in this order

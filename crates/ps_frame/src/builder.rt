@@ -2,7 +2,7 @@
 ghost use Rattle.std.specs.Prelude.{◌≡◌, ◌≢◌, ◌↔◌, [], Err, IfOk, IsFalse, IsTrue, OnErr, OnOk, ◌++◌, if◌then◌else◌};
 ghost use Rattle.ps_frame.specs.Frames.{above};
 ghost use Rattle.ps_frame.specs.Pushed.{with_value};
-ghost use Rattle.ps_frame.specs.Typed.{Typed, all_fit};
+ghost use Rattle.ps_frame.specs.Series.{Series, all_fit};
 ghost use Rattle.ps_frame.specs.Values.{fits_kind};
 
 use crate::column::Column;
@@ -27,9 +27,9 @@ pub struct ColumnBuilder {
 impl Model for ColumnBuilder {
     ghost use Rattle.std.specs.Prelude.{◌≡◌, ◌++◌, IfSome, IsTrue};
     ghost use Rattle.ps_frame.specs.Pushed.{values_of};
-    ghost use Rattle.ps_frame.specs.Typed.{Typed, all_fit};
+    ghost use Rattle.ps_frame.specs.Series.{Series, all_fit};
 
-    ghost Value = { Typed };
+    ghost Value = { Series };
 
     ghost view = { λ a. record { kind = a.packed.kind; values = values_of a.front ++ (a.packed.values ++ a.rest.items) } };
 
@@ -61,6 +61,7 @@ impl ColumnBuilder {
         if !value.fits(self.packed.dtype()) {
             return Err(FrameError::Kind);
         }
+        // Not by `?`: the clauses tell want of memory from `Kind`, so it is named here.
         match self.put(alloc, value) {
             Ok(()) => Ok(()),
             Err(_) => Err(FrameError::OutOfMemory),
@@ -97,6 +98,7 @@ impl ColumnBuilder {
         ensures memory { OnErr result (result ≡ Err FrameError.OutOfMemory) }
     {
         if self.rest.is_empty() {
+            // A law: what is taken over fits the kind, as `rest` has to.
             self.packed.values_fit();
             let rest = self.packed.values(alloc)?;
             self.packed = Packed::new(alloc, self.packed.dtype());
@@ -126,6 +128,7 @@ impl ColumnBuilder {
         if self.packed.dtype() != column.dtype() {
             return Err(FrameError::Kind);
         }
+        // Not by `?`: the clauses tell want of memory from `Kind`, so it is named here.
         match self.followed_by(alloc, column) {
             Ok(builder) => Ok(builder),
             Err(_) => Err(FrameError::OutOfMemory),
@@ -175,6 +178,7 @@ impl ColumnBuilder {
         requires { self.old.kind ≡ column.now.kind }
         ensures added { OnOk result (self.new ≡ above self.old column.now) }
     {
+        // A law: each value fits the kind, as `push_copy` asks.
         column.values_fit();
         for i in 0..column.len() {
             self.push_copy(alloc, column.value(i))?;

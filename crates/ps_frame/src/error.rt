@@ -1,5 +1,5 @@
 // Why a table can't be made.
-use pu_order::PlSmallStr;
+use pu_base::PlSmallStr;
 use std::alloc::{AllocError, AllocFailed};
 use thiserror::Error;
 

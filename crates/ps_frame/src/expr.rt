@@ -1,8 +1,7 @@
 // Expressions as entries of an arena.
 use crate::items::Items;
 use crate::value::DataType;
-use pu_index::Node;
-use pu_order::PlSmallStr;
+use pu_base::{Node, PlSmallStr};
 
 /// A value that an expression states. A null is of a kind too.
 #[derive(Drop)]
@@ -192,7 +191,7 @@ ghost use Rattle.std.specs.Prelude.{◌≡◌, Some};
 ghost use Rattle.ps_frame.specs.Trees.{IsComplete, IsExpression, entry_tree, tree_at, tree_size};
 ghost use Rattle.ps_frame.specs.Typing.{is_elementwise as is_elementwise_tree};
 
-use pu_index::Arena;
+use pu_base::Arena;
 
 /// The entry of an expression, over the trees of whose numbers its tree stands.
 pub fn entry(expr: Node, arena: &Arena<AExpr>) -> &AExpr

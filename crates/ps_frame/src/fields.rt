@@ -9,7 +9,7 @@ ghost use Rattle.ps_frame.specs.declared.value.DataType.{DataType};
 
 use crate::error::FrameError;
 use crate::value::DataType;
-use pu_order::PlSmallStr;
+use pu_base::PlSmallStr;
 use std::alloc::{AllocError, Global};
 use std::collections::HashMap;
 use std::marker::Model;
@@ -75,6 +75,7 @@ impl Fields {
     pub(crate) fn names_differ(&self)
         ensures { IsTrue (has_distinct_names self.now) }
     {
+        // A field is read, for then the invariant is known, which is the law.
         let _list = self.list.as_slice();
     }
 

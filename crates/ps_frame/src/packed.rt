@@ -4,7 +4,7 @@ ghost use Rattle.std.specs.List.{All};
 ghost use Rattle.ps_frame.specs.Frames.{above};
 ghost use Rattle.ps_frame.specs.Gathered.{gathered_or_null, value_or_null};
 ghost use Rattle.ps_frame.specs.Pushed.{with_value};
-ghost use Rattle.ps_frame.specs.Typed.{Typed, all_fit};
+ghost use Rattle.ps_frame.specs.Series.{Series, all_fit};
 ghost use Rattle.ps_frame.specs.Values.{fits_kind};
 ghost use Rattle.ps_frame.specs.Zip.{below};
 
@@ -48,9 +48,9 @@ impl Model for Packed {
     ghost use Rattle.std.specs.Prelude.{◌<◌, IsTrue, Some, length};
     ghost use Rattle.std.specs.List.{All};
     ghost use Rattle.ps_frame.specs.Gathered.{picked};
-    ghost use Rattle.ps_frame.specs.Typed.{Typed, all_fit};
+    ghost use Rattle.ps_frame.specs.Series.{Series, all_fit};
 
-    ghost Value = { Typed };
+    ghost Value = { Series };
 
     ghost view = { λ a. record { kind = a.dtype; values = picked (Some a.places.items) a.few.items } };
 
@@ -137,6 +137,7 @@ impl Packed {
     pub(crate) fn values_fit(&self)
         ensures { IsTrue (all_fit self.now.kind self.now.values) }
     {
+        // A field is read, for then the invariant is known, which is the law.
         let _dtype = &self.dtype;
     }
 
@@ -222,6 +223,7 @@ fn push_all(alloc: Global, packed: &mut Packed, column: &Column) -> Result<bool,
     ensures added { IfOk result (λ all. IsTrue all → packed.new ≡ above packed.old column.now) }
     ensures memory { OnErr result (result ≡ Err FrameError.OutOfMemory) }
 {
+    // A law: each value fits the kind, as `push` asks.
     column.values_fit();
     for i in 0..column.len() {
         let taken = packed.push(alloc, column.value(i))?;
@@ -265,6 +267,7 @@ fn push_or_null(
     ensures added { IfOk result (λ taken. IsTrue taken → packed.new ≡ with_value packed.old (value_or_null column.now.values row)) }
     ensures memory { OnErr result (result ≡ Err FrameError.OutOfMemory) }
 {
+    // A law: the value fits the kind, as `push` asks.
     column.values_fit();
     match row {
         Some(i) => packed.push(alloc, column.value(i)),

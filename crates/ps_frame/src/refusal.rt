@@ -3,8 +3,7 @@ ghost use Rattle.std.specs.Prelude.{◌≡◌};
 ghost use Rattle.ps_frame.specs.Lines.{bound_name, compute_name, why_name};
 
 use crate::expr::What;
-use pu_index::Node;
-use pu_order::PlSmallStr;
+use pu_base::{Node, PlSmallStr};
 use std::alloc::{AllocError, AllocFailed};
 use std::fmt;
 

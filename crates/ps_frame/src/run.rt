@@ -31,6 +31,7 @@ impl<T: Drop> Run<T> {
         ensures made { IfOk result (λ run. run ≡ items.items) }
     {
         let len = items.len();
+        // Not by `?`: the error holds the items, which are dropped here.
         match Arc::new(alloc, items) {
             Ok(shared) => Ok(Run {
                 shared,

@@ -6,7 +6,7 @@ ghost use Rattle.ps_frame.specs.Tables.{field_index};
 use crate::error::FrameError;
 use crate::fields::Fields;
 use crate::value::DataType;
-use pu_order::PlSmallStr;
+use pu_base::PlSmallStr;
 use std::alloc::Global;
 use std::marker::Model;
 use std::sync::Arc;
@@ -141,6 +141,7 @@ impl Schema {
         if self.contains(name.as_str()) {
             return Err(FrameError::Duplicate { name });
         }
+        // Not by `?`: the clauses tell want of memory from `Duplicate`, so it is named here.
         match self.append(alloc, name, dtype) {
             Ok(()) => Ok(()),
             Err(_) => Err(FrameError::OutOfMemory),
@@ -196,6 +197,7 @@ impl Schema {
         ensures errors { OnErr result ((result ≡ Err FrameError.OutOfMemory) ⊎ IsSomeAnd (shared_name self.now other.now) (λ name. result ≡ Err (FrameError.Duplicate name))) }
     {
         if let Some(i) = first_shared(self, other) {
+            // A text's own error doesn't convert by `?`; it is want of memory alone.
             return match other.name(i).try_clone(alloc) {
                 Ok(name) => Err(FrameError::Duplicate { name }),
                 Err(_) => Err(FrameError::OutOfMemory),

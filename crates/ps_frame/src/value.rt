@@ -1,5 +1,5 @@
 // Kinds, values, faults and cells.
-use pu_order::PlSmallStr;
+use pu_base::PlSmallStr;
 
 /// The kind of a column.
 #[derive(Clone, Copy, Debug, PartialEq, Eq)]
@@ -49,7 +49,7 @@ pub struct Evaluated {
 
 ghost use Rattle.std.specs.Prelude.{◌≡◌, ◌↔◌, IfOk, IsTrue, OnErr, Err};
 ghost use Rattle.ps_frame.specs.Values.{fits_kind, is_true as is_true_value};
-ghost use Rattle.ps_frame.specs.Typed.{all_fit};
+ghost use Rattle.ps_frame.specs.Series.{all_fit};
 
 use crate::error::FrameError;
 use std::alloc::Global;
@@ -115,6 +115,7 @@ impl Value {
             Value::Boolean(b) => Ok(Value::Boolean(*b)),
             Value::Int64(z) => Ok(Value::Int64(*z)),
             Value::IdxSize(n) => Ok(Value::IdxSize(*n)),
+            // A text's own error doesn't convert by `?`; it is want of memory alone.
             Value::String(s) => match s.try_clone(alloc) {
                 Ok(copy) => Ok(Value::String(copy)),
                 Err(_) => Err(FrameError::OutOfMemory),

@@ -4,16 +4,16 @@ use Rattle.std.specs.Prelude.{None, Some, option_map, slice_get}
 use Rattle.std.specs.List.{AllZip}
 use Rattle.std.proofs.lemmas.List.{get_or-map, length-map, map_more, map-append}
 use Rattle.std.proofs.lemmas.Option.{same_Some}
-use Rattle.pu_index.specs.declared.arena.Node.{Node}
+use Rattle.pu_base.specs.declared.arena.Node.{Node}
 use Rattle.ps_frame.specs.Frames.{HasKinds, kinds_of}
 use Rattle.ps_frame.specs.Tables.{Fields, Frame}
 use Rattle.ps_frame.specs.Trees.{Tree}
-use Rattle.ps_frame.specs.Typed.{Typed}
+use Rattle.ps_frame.specs.Series.{Series}
 use Rattle.ps_frame.specs.Typing.{kind_over}
 use Rattle.ps_frame.specs.declared.refusal.PolarsError.{PolarsError}
 use Rattle.ps_frame.specs.declared.value.DataType.{DataType}
-use Rattle.ps_plan.specs.Steps.{key_trees}
-use Rattle.ps_plan.specs.declared.ir.ExprIR.{ExprIR}
+use Rattle.ps_meaning.specs.Steps.{key_trees}
+use Rattle.ps_meaning.specs.declared.options.ExprIR.{ExprIR}
 use Rattle.ps_zip.proofs.Steps.{zip-append}
 use Rattle.ps_groups.specs.Errors.{IsErrorAt}
 use Rattle.ps_groups.specs.Grouped.{IsAggregate, IsFaultOfAny, IsFaultOver, last_fields}
@@ -48,13 +48,13 @@ module _ (f : Node → Tree) (aggs : List ExprIR) (schema : Fields) (i : ℕ) (a
       ∙ kind-behind (length schema - length aggs) i schema k there
 
   -- one aggregate more
-  pub kinds-more : (c : Typed) (cs new : List Typed) → HasKinds (take i (last_fields (length aggs) schema)) cs → c.kind ≡ k → new ≡ cs ++ c ∷ [] → HasKinds (take (i + 1) (last_fields (length aggs) schema)) new
+  pub kinds-more : (c : Series) (cs new : List Series) → HasKinds (take i (last_fields (length aggs) schema)) cs → c.kind ≡ k → new ≡ cs ++ c ∷ [] → HasKinds (take (i + 1) (last_fields (length aggs) schema)) new
   kinds-more c cs new before kind grown =
       let own = last_fields (length aggs) schema in
       let kinds = kinds_of own in
       let some : get_or (map Some kinds) i None ≡ Some k = kind-behind (length schema - length aggs) i schema k there in
-      ap (map (λ (d : Typed). d.kind)) grown
-      ∙ map-append (λ (d : Typed). d.kind) cs (c ∷ [])
+      ap (map (λ (d : Series). d.kind)) grown
+      ∙ map-append (λ (d : Series). d.kind) cs (c ∷ [])
       ∙ ap (λ ks. ks ++ c.kind ∷ []) before
       ∙ ap (λ j. kinds_of (take i own) ++ j ∷ []) kind
       ∙ sym (field-more own i some)
@@ -64,7 +64,7 @@ module _ (f : Node → Tree) (aggs : List ExprIR) (schema : Fields) (i : ℕ) (a
       field-more (g ∷ s) zero e = ap (λ j. j ∷ []) (same_Some g.1 k e)
       field-more (g ∷ s) (suc i) e = let z : suc i + 1 ≡ suc (i + 1) = omega arith in ap (λ n. kinds_of (take n (g ∷ s))) z ∙ ap (λ ks. g.1 ∷ ks) (field-more s i e)
 
-  pub columns-more : (at : ℕ) (tables : List Frame) (c : Typed) (cs new : List Typed) → AllZip (IsAggregate at tables) (key_trees f (take i aggs)) cs → IsAggregate at tables (f agg.node) c → new ≡ cs ++ c ∷ []
+  pub columns-more : (at : ℕ) (tables : List Frame) (c : Series) (cs new : List Series) → AllZip (IsAggregate at tables) (key_trees f (take i aggs)) cs → IsAggregate at tables (f agg.node) c → new ≡ cs ++ c ∷ []
       → AllZip (IsAggregate at tables) (key_trees f (take (i + 1) aggs)) new
   columns-more at tables c cs new before one grown =
       let more : key_trees f (take (i + 1) aggs) ≡ key_trees f (take i aggs) ++ f agg.node ∷ [] =

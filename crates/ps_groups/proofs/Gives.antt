@@ -3,12 +3,12 @@ use Rattle.std.proofs.Common.{◌≡◌, ℕ, List, [], ◌∷◌, Bool, true, f
 use Rattle.std.proofs.lemmas.List.Sorted.{IsPermutation-refl}
 use Rattle.ps_frame.specs.Functions.{Functions}
 use Rattle.ps_frame.specs.Tables.{Frame, whole}
-use Rattle.ps_plan.specs.Cases.{cut_by, rows_table}
-use Rattle.ps_plan.specs.Distinct.{kept_rows, subset_places}
-use Rattle.ps_plan.specs.Nodes.{GivesFrame}
-use Rattle.ps_plan.specs.Orders.{IsOrder}
-use Rattle.ps_plan.specs.Steps.{distinct_step}
-use Rattle.ps_plan.specs.declared.ir.DistinctOptions.{DistinctOptions}
+use Rattle.ps_meaning.specs.Cases.{cut_by, rows_table}
+use Rattle.ps_meaning.specs.Distinct.{kept_rows, subset_places}
+use Rattle.ps_meaning.specs.Nodes.{GivesFrame}
+use Rattle.ps_meaning.specs.Orders.{IsOrder}
+use Rattle.ps_meaning.specs.Steps.{distinct_step}
+use Rattle.ps_meaning.specs.declared.options.DistinctOptions.{DistinctOptions}
 
 -- a list is some order of itself
 pub same-order : {X : Type 0} (maintained : Bool) (xs : List X) → IsOrder maintained xs xs

@@ -3,25 +3,25 @@ use Rattle.std.proofs.Common.{◌≡◌, ℕ, List, [], ◌∷◌, ◌++◌, len
 use Rattle.std.specs.Prelude.{Contains, IfErr, OnErr, Result, Ok, Err, Some, unwrap_or}
 use Rattle.std.specs.List.{AllByRecursion}
 use Rattle.std.proofs.lemmas.List.{map-append}
-use Rattle.pu_index.specs.declared.arena.Node.{Node}
+use Rattle.pu_base.specs.declared.arena.Node.{Node}
 use Rattle.ps_frame.specs.Causes.{Cause}
 use Rattle.ps_frame.specs.Frames.{kinds_of}
 use Rattle.ps_frame.specs.Functions.{Functions}
 use Rattle.ps_frame.specs.Tables.{Fields, Frame, Table, whole}
 use Rattle.ps_frame.specs.Trees.{IsComplete, Tree}
-use Rattle.ps_frame.specs.Typed.{Typed}
+use Rattle.ps_frame.specs.Series.{Series}
 use Rattle.ps_frame.specs.Typing.{kind_over}
 use Rattle.ps_frame.specs.Zip.{Zipped}
 use Rattle.ps_frame.specs.declared.refusal.PolarsError.{PolarsError}
 use Rattle.ps_frame.specs.declared.refusal.PolarsError.TheVariants as error
 use Rattle.ps_frame.specs.declared.value.Value.{Value}
-use Rattle.ps_plan.specs.Cases.{GivesBeforeCut, cut_by, if_whole, keyed, out_schema}
-use Rattle.ps_plan.specs.Groups.{Group, groups, groups_table}
-use Rattle.ps_plan.specs.Meaning.{HasLargeColumn}
-use Rattle.ps_plan.specs.Nodes.{GivesFrame, MayFault}
-use Rattle.ps_plan.specs.Schemas.{fields_of}
-use Rattle.ps_plan.specs.Steps.{Cut, Named, Step, exprs_of, group_step, key_trees, name_in, named_trees}
-use Rattle.ps_plan.specs.declared.ir.ExprIR.{ExprIR}
+use Rattle.ps_meaning.specs.Cases.{GivesBeforeCut, cut_by, if_whole, keyed, out_schema}
+use Rattle.ps_meaning.specs.Groups.{Group, groups, groups_table}
+use Rattle.ps_meaning.specs.Meaning.{HasLargeColumn}
+use Rattle.ps_meaning.specs.Nodes.{GivesFrame, MayFault}
+use Rattle.ps_meaning.specs.Schemas.{fields_of}
+use Rattle.ps_meaning.specs.Steps.{Cut, Named, Step, exprs_of, group_step, key_trees, name_in, named_trees}
+use Rattle.ps_meaning.specs.declared.options.ExprIR.{ExprIR}
 use Rattle.ps_rows.proofs.Steps.{fields-kinds}
 use Rattle.ps_rows.specs.Keyed.{IsTableWithKeys}
 use Rattle.ps_zip.proofs.Named.{exprs-of-named}
@@ -48,7 +48,7 @@ module _ (f : Node → Tree) (at : ℕ) (keys aggs : List ExprIR) (t : Frame) wh
         ∙ fields-kinds f t.schema (keys ++ aggs) schema (ap (λ (es : List Named). fields_of es t.schema) (map-append (λ (e : ExprIR). (name_in e.output_name, f e.node)) keys aggs) ∙ fields)
 
     -- a table with the columns of its keys can be grouped
-    pub can-group : (m : Frame) (cs : List Typed) → IsTableWithKeys own_zip t.schema (expr_kinds t.schema key_exprs) m cs → AllByRecursion IsComplete agg_exprs → CanGroup m cs agg_exprs schema
+    pub can-group : (m : Frame) (cs : List Series) → IsTableWithKeys own_zip t.schema (expr_kinds t.schema key_exprs) m cs → AllByRecursion IsComplete agg_exprs → CanGroup m cs agg_exprs schema
     can-group m cs is complete = record {
       widths = subst (λ (s : Fields). AllByRecursion (λ (row : List Value). length row ≡ length s) m.rows) (sym is.schema_is) is.widths;
       heights = is.heights;
@@ -82,7 +82,7 @@ module _ (f : Node → Tree) (at : ℕ) (keys aggs : List ExprIR) (t : Frame) wh
       gives-given : GivesBeforeCut F at step (whole t ∷ []) given
       gives-given = inl (gs, same-order maintained gs, refl)
 
-      module _ (m : Frame) (cs : List Typed) (is : IsTableWithKeys own_zip t.schema (expr_kinds t.schema key_exprs) m cs) where
+      module _ (m : Frame) (cs : List Series) (is : IsTableWithKeys own_zip t.schema (expr_kinds t.schema key_exprs) m cs) where
         groups-are : gs ≡ table_groups at agg_exprs m cs
         groups-are = λ i. groups at (exprs-of-named f aggs i) (sym is.schema_is i) ((ap (λ (x : Zipped). x.rows) zip-is ∙ is.rows) i)
 

@@ -11,13 +11,13 @@ use Rattle.ps_frame.specs.Frames.{AllOfHeight, column_values}
 use Rattle.ps_frame.specs.Gathered.{gathered}
 use Rattle.ps_frame.specs.Tables.{Fields, Frame, rows_of, whole}
 use Rattle.ps_frame.specs.Trees.{Tree}
-use Rattle.ps_frame.specs.Typed.{Typed}
+use Rattle.ps_frame.specs.Series.{Series}
 use Rattle.ps_frame.specs.Zip.{below}
 use Rattle.ps_frame.specs.declared.value.DataFault.{DataFault}
 use Rattle.ps_frame.specs.declared.value.Value.{Value}
 use Rattle.ps_frame.specs.declared.value.Value.TheVariants as val
-use Rattle.ps_plan.proofs.Fits.{all-append, all-of}
-use Rattle.ps_plan.specs.Groups.{Group, group_columns, group_of, groups, keys_of, only_value, rows_before_faulty}
+use Rattle.ps_meaning.proofs.Fits.{all-append, all-of}
+use Rattle.ps_meaning.specs.Groups.{Group, group_columns, group_of, groups, keys_of, only_value, rows_before_faulty}
 use Rattle.ps_keys.specs.Hashes.{row_at}
 use Rattle.ps_keys.specs.Numbering.{Numbers}
 use Rattle.ps_keys.specs.declared.numbering.Numbering.{Numbering}
@@ -51,7 +51,7 @@ clean-groups (g ∷ gs) e =
     ∙ ap (λ rows. g.cells ∷ rows) (clean-groups gs both.1)
 
 -- the key columns at some rows
-row-gathered : (places : List ℕ) (k : ℕ) (cs : List Typed) → k < length places → row_at (map (gathered places) cs) k ≡ row_at cs (get_or places k 0)
+row-gathered : (places : List ℕ) (k : ℕ) (cs : List Series) → k < length places → row_at (map (gathered places) cs) k ≡ row_at cs (get_or places k 0)
 row-gathered places k [] within = refl
 row-gathered places k (c ∷ cs) within =
     ap (λ v. v ∷ row_at (map (gathered places) cs) k) (get_or-map (λ i. get_or c.values i val.Null) places k 0 val.Null within)
@@ -68,7 +68,7 @@ module _ (at : ℕ) (s : Fields) (rows : List (List Value)) (trees : List Tree) 
   frame-at k d within = get_or-map (key_frame s rows) keys k [] d within
 
   -- the values of aggregates at a group
-  values-at : (ts : List Tree) (vs : List Typed) (k : ℕ) → k < length keys → AllZip (IsAggregate at (key_frames s rows)) ts vs → row_at vs k ≡ map only_value (group_columns at ts s rows (get_or keys k []))
+  values-at : (ts : List Tree) (vs : List Series) (k : ℕ) → k < length keys → AllZip (IsAggregate at (key_frames s rows)) ts vs → row_at vs k ≡ map only_value (group_columns at ts s rows (get_or keys k []))
   values-at [] [] k within are = refl
   values-at [] (v ∷ vs) k within are = absurd are
   values-at (t ∷ ts) [] k within are = absurd are
@@ -82,7 +82,7 @@ module _ (at : ℕ) (s : Fields) (rows : List (List Value)) (trees : List Tree) 
       ∙ ap (λ ws. only_value (eval at (whole (key_frame s rows (get_or keys k []))) t) ∷ ws) (values-at ts vs k within are.1)
 
   -- they have no causes
-  clean-at : (ts : List Tree) (vs : List Typed) (k : ℕ) → k < length keys → AllZip (IsAggregate at (key_frames s rows)) ts vs → flat_map column_causes (group_columns at ts s rows (get_or keys k [])) ≡ []
+  clean-at : (ts : List Tree) (vs : List Series) (k : ℕ) → k < length keys → AllZip (IsAggregate at (key_frames s rows)) ts vs → flat_map column_causes (group_columns at ts s rows (get_or keys k [])) ≡ []
   clean-at [] [] k within are = refl
   clean-at [] (v ∷ vs) k within are = absurd are
   clean-at (t ∷ ts) [] k within are = absurd are
@@ -92,7 +92,7 @@ module _ (at : ℕ) (s : Fields) (rows : List (List Value)) (trees : List Tree) 
       ap (λ f. column_causes (eval at (whole f) t)) (sym (frame-at k none within)) ∙ are.0.clean k none (omega (arith, length-frames)) in
       ap (λ cs. cs ++ flat_map column_causes (group_columns at ts s rows (get_or keys k []))) first ∙ clean-at ts vs k within are.1
 
-  pub no-causes : (vs : List Typed) → AllZip (IsAggregate at (key_frames s rows)) trees vs → all_causes (groups at trees s rows) ≡ []
+  pub no-causes : (vs : List Series) → AllZip (IsAggregate at (key_frames s rows)) trees vs → all_causes (groups at trees s rows) ≡ []
   no-causes vs are = flat-none (λ (g : Group). g.causes) (groups at trees s rows) (λ k d within.
       let count : k < length keys = omega (arith, length-map keys (group_of at trees s rows)) in
       ap (λ (g : Group). g.causes) (get_or-map (group_of at trees s rows) keys k [] d count) ∙ clean-at trees vs k count are)
@@ -113,7 +113,7 @@ module _ (at : ℕ) (s : Fields) (rows : List (List Value)) (trees : List Tree) 
       contains-flat (λ (g : Group). g.causes) (groups at trees s rows) k (g []) c (omega (arith, length-map keys g))
       (subst (λ (x : Group). Contains x.causes c) (sym (get_or-map g keys k [] (g []) count)) in_group)
 
-  module _ (n : Numbering) (of : Numbers (map (drop (length s)) rows) n) (h : ℕ) (cs vs : List Typed) (heights : AllOfHeight h cs) (behind : rows_of h (column_values cs) ≡ map (drop (length s)) rows)
+  module _ (n : Numbering) (of : Numbers (map (drop (length s)) rows) n) (h : ℕ) (cs vs : List Series) (heights : AllOfHeight h cs) (behind : rows_of h (column_values cs) ≡ map (drop (length s)) rows)
       (are : AllZip (IsAggregate at (key_frames s rows)) trees vs) where
     abbrev count : ℕ
     count = length n.firsts.items
@@ -121,7 +121,7 @@ module _ (at : ℕ) (s : Fields) (rows : List (List Value)) (trees : List Tree) 
     as-many : length keys ≡ count
     as-many = distinct-length (map (drop (length s)) rows) n of
 
-    values-heights : (ts : List Tree) (ws : List Typed) → AllZip (IsAggregate at (key_frames s rows)) ts ws → AllOfHeight count ws
+    values-heights : (ts : List Tree) (ws : List Series) → AllZip (IsAggregate at (key_frames s rows)) ts ws → AllOfHeight count ws
     values-heights [] [] are = tt
     values-heights [] (w ∷ ws) are = absurd are
     values-heights (t ∷ ts) [] are = absurd are
@@ -130,8 +130,8 @@ module _ (at : ℕ) (s : Fields) (rows : List (List Value)) (trees : List Tree) 
 
     pub group-heights : AllOfHeight count (map (gathered n.firsts.items) cs ++ vs)
     group-heights =
-        all-append (λ (c : Typed). length c.values ≡ count) (map (gathered n.firsts.items) cs) vs
-        (all-of (λ (c : Typed). length c.values ≡ count) (gathered n.firsts.items) (λ c. length-map n.firsts.items (λ i. get_or c.values i val.Null)) cs)
+        all-append (λ (c : Series). length c.values ≡ count) (map (gathered n.firsts.items) cs) vs
+        (all-of (λ (c : Series). length c.values ≡ count) (gathered n.firsts.items) (λ c. length-map n.firsts.items (λ i. get_or c.values i val.Null)) cs)
         (values-heights trees vs are)
 
     -- a key's first row has its values
@@ -151,7 +151,7 @@ module _ (at : ℕ) (s : Fields) (rows : List (List Value)) (trees : List Tree) 
         rows_of-is count (ks ++ vs) group-heights
         ∙ ap (λ m. map (row_at (ks ++ vs)) (below m)) (sym as-many)
         ∙ map-places cells keys [] (row_at (ks ++ vs)) (λ k within.
-        map-append (λ (c : Typed). get_or c.values k val.Null) ks vs
+        map-append (λ (c : Series). get_or c.values k val.Null) ks vs
         ∙ ap (λ r. r ++ row_at vs k) (row-gathered n.firsts.items k cs (omega (arith, as-many)) ∙ key-row k (omega (arith, as-many)))
         ∙ ap (λ ws. get_or keys k [] ++ ws) (values-at trees vs k within are))
         ∙ sym (map-map (λ (g : Group). g.cells) (group_of at trees s rows) keys)

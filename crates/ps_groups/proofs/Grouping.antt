@@ -11,12 +11,12 @@ use Rattle.ps_frame.specs.Frames.{AllOfHeight, HasKinds, IsFrame, all_beside, co
 use Rattle.ps_frame.specs.Gathered.{gathered}
 use Rattle.ps_frame.specs.Tables.{Fields, Frame, rows_of}
 use Rattle.ps_frame.specs.Trees.{Tree}
-use Rattle.ps_frame.specs.Typed.{Typed}
+use Rattle.ps_frame.specs.Series.{Series}
 use Rattle.ps_frame.specs.Typing.{kind_over}
 use Rattle.ps_frame.specs.declared.refusal.PolarsError.{PolarsError}
 use Rattle.ps_frame.specs.declared.value.DataType.{DataType}
 use Rattle.ps_frame.specs.declared.value.Value.{Value}
-use Rattle.ps_plan.specs.Groups.{Group}
+use Rattle.ps_meaning.specs.Groups.{Group}
 use Rattle.ps_keys.specs.KeyRows.{AreBelow, places_of_each}
 use Rattle.ps_keys.specs.Numbering.{Numbers}
 use Rattle.ps_keys.specs.declared.numbering.Numbering.{Numbering}
@@ -25,7 +25,7 @@ use Rattle.ps_keys.proofs.RowValues.{map-map}
 use Rattle.ps_rows.proofs.Rows.{drop-front, take-front}
 use Rattle.ps_groups.specs.Errors.{IsErrorAt}
 use Rattle.ps_groups.specs.Grouped.{CanGroup, IsAggregate, IsFaultOfAny, IsFaultOfGroups, all_causes, key_frames, keyed_rows, last_fields, table_groups}
-use Rattle.ps_groups.specs.Tables.{table_at}
+use Rattle.ps_groups.specs.GroupTables.{table_at}
 use Rattle.ps_groups.proofs.GroupRows.{fault-of-groups, group-heights, group-rows, no-causes}
 use Rattle.ps_groups.proofs.Kept.{firsts-few, keys-below-firsts}
 use Rattle.ps_groups.proofs.KeyTables.{tables-of-keys}
@@ -51,7 +51,7 @@ some-same (x ∷ xs) (y ∷ ys) e =
     let rest : map Some xs ≡ map Some ys = cc in
     λ i. first i ∷ some-same xs ys rest i
 
-module _ (t : Frame) (own : List Typed) (trees : List Tree) (schema : Fields) (can : CanGroup t own trees schema) where
+module _ (t : Frame) (own : List Series) (trees : List Tree) (schema : Fields) (can : CanGroup t own trees schema) where
   abbrev w : ℕ
   w = length t.schema
 
@@ -77,8 +77,8 @@ module _ (t : Frame) (own : List Typed) (trees : List Tree) (schema : Fields) (c
   long : length schema ≡ length own + length trees
   long =
       let a = ap length can.kinds in
-      let b = length-append (map (λ (c : Typed). Some c.kind) own) (map (kind_over t.schema) trees) in
-      let c = length-map own (λ (c : Typed). Some c.kind) in
+      let b = length-append (map (λ (c : Series). Some c.kind) own) (map (kind_over t.schema) trees) in
+      let c = length-map own (λ (c : Series). Some c.kind) in
       let d = length-map trees (kind_over t.schema) in
       let e = length-map (kinds_of schema) Some in
       let f = length-map schema (λ (g : List ℕ × DataType). g.1) in
@@ -92,8 +92,8 @@ module _ (t : Frame) (own : List Typed) (trees : List Tree) (schema : Fields) (c
 
   pub last-kinds : map (kind_over t.schema) trees ≡ map Some (kinds_of (last_fields (length trees) schema))
   last-kinds =
-      sym (drop-append_seam (map (λ (c : Typed). Some c.kind) own) (map (kind_over t.schema) trees))
-      ∙ ap (λ n. drop n (map (λ (c : Typed). Some c.kind) own ++ map (kind_over t.schema) trees)) (length-map own (λ (c : Typed). Some c.kind))
+      sym (drop-append_seam (map (λ (c : Series). Some c.kind) own) (map (kind_over t.schema) trees))
+      ∙ ap (λ n. drop n (map (λ (c : Series). Some c.kind) own ++ map (kind_over t.schema) trees)) (length-map own (λ (c : Series). Some c.kind))
       ∙ ap (drop (length own)) can.kinds
       ∙ drop-map Some (length own) (kinds_of schema)
       ∙ ap (map Some) (drop-map (λ (g : List ℕ × DataType). g.1) (length own) schema)
@@ -116,7 +116,7 @@ module _ (t : Frame) (own : List Typed) (trees : List Tree) (schema : Fields) (c
     pub keys-long : length n.keys.items ≡ h
     keys-long = keys-length key_rows n of ∙ height
 
-    pub firsts-there : All (λ (c : Typed). All (λ i. i < length c.values) n.firsts.items) own
+    pub firsts-there : All (λ (c : Series). All (λ i. i < length c.values) n.firsts.items) own
     firsts-there j d within k e inside =
         let tall : length (get_or own j d).values ≡ h = all-here own can.heights j d within in
         let first = firsts-below key_rows n of k inside in
@@ -124,7 +124,7 @@ module _ (t : Frame) (own : List Typed) (trees : List Tree) (schema : Fields) (c
         let e = height in
         omega arith
       where
-        all-here : (cs : List Typed) → AllOfHeight h cs → (j : ℕ) (d : Typed) → j < length cs → length (get_or cs j d).values ≡ h
+        all-here : (cs : List Series) → AllOfHeight h cs → (j : ℕ) (d : Series) → j < length cs → length (get_or cs j d).values ≡ h
         all-here [] a j d within = absurd (omega arith)
         all-here (c ∷ cs) a zero d within = a.0
         all-here (c ∷ cs) a (suc j) d within = all-here cs a.1 j d (omega arith)
@@ -135,15 +135,15 @@ module _ (t : Frame) (own : List Typed) (trees : List Tree) (schema : Fields) (c
     pub frames-are : map (table_at t) (places_of_each count n.keys.items) ≡ key_frames t.schema rows
     frames-are = tables-of-keys t.schema rows n of-behind t refl front
 
-    module _ (at : ℕ) (vs : List Typed) (are : AllZip (IsAggregate at (key_frames t.schema rows)) trees vs) where
-      abbrev all : List Typed
+    module _ (at : ℕ) (vs : List Series) (are : AllZip (IsAggregate at (key_frames t.schema rows)) trees vs) where
+      abbrev all : List Series
       all = map (gathered n.firsts.items) own ++ vs
 
-      all-kinds : HasKinds (last_fields (length trees) schema) vs → map (λ (c : Typed). c.kind) all ≡ kinds_of schema
-      all-kinds kinds = some-same (map (λ (c : Typed). c.kind) all) (kinds_of schema)
-          (map-map Some (λ (c : Typed). c.kind) all
-          ∙ map-append (λ (c : Typed). Some c.kind) (map (gathered n.firsts.items) own) vs
-          ∙ (λ i. map-map (λ (c : Typed). Some c.kind) (gathered n.firsts.items) own i ++ (sym (map-map Some (λ (c : Typed). c.kind) vs) ∙ ap (map Some) kinds ∙ sym last-kinds) i)
+      all-kinds : HasKinds (last_fields (length trees) schema) vs → map (λ (c : Series). c.kind) all ≡ kinds_of schema
+      all-kinds kinds = some-same (map (λ (c : Series). c.kind) all) (kinds_of schema)
+          (map-map Some (λ (c : Series). c.kind) all
+          ∙ map-append (λ (c : Series). Some c.kind) (map (gathered n.firsts.items) own) vs
+          ∙ (λ i. map-map (λ (c : Series). Some c.kind) (gathered n.firsts.items) own i ++ (sym (map-map Some (λ (c : Series). c.kind) vs) ∙ ap (map Some) kinds ∙ sym last-kinds) i)
           ∙ can.kinds)
 
       pub group-frame : h ≤ max_rows → HasKinds (last_fields (length trees) schema) vs → IsFrame schema all count

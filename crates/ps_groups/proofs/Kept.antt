@@ -6,13 +6,13 @@ use Rattle.std.proofs.lemmas.List.{get_or-map, length-map}
 use Rattle.ps_frame.specs.Frames.{AllOfHeight, column_values}
 use Rattle.ps_frame.specs.Gathered.{rows_at}
 use Rattle.ps_frame.specs.Tables.{rows_of, values_at}
-use Rattle.ps_frame.specs.Typed.{Typed}
+use Rattle.ps_frame.specs.Series.{Series}
 use Rattle.ps_frame.specs.Values.{same_row}
 use Rattle.ps_frame.specs.Zip.{below}
 use Rattle.ps_frame.specs.declared.value.Value.{Value}
-use Rattle.ps_plan.specs.Distinct.{kept_rows, last_rows, single_rows, picked, same_key}
-use Rattle.ps_plan.specs.declared.ir.UniqueKeepStrategy.{UniqueKeepStrategy}
-use Rattle.ps_plan.specs.declared.ir.UniqueKeepStrategy.TheVariants as keep
+use Rattle.ps_meaning.specs.Distinct.{kept_rows, last_rows, single_rows, picked, same_key}
+use Rattle.ps_meaning.specs.declared.options.UniqueKeepStrategy.{UniqueKeepStrategy}
+use Rattle.ps_meaning.specs.declared.options.UniqueKeepStrategy.TheVariants as keep
 use Rattle.ps_keys.specs.KeyRows.{AreBelow}
 use Rattle.ps_keys.specs.Numbering.{Numbers, places_of}
 use Rattle.ps_keys.specs.declared.numbering.Numbering.{Numbering}
@@ -20,7 +20,7 @@ use Rattle.ps_keys.proofs.FirstRows.{firsts-at, firsts_by-picked, kept-below}
 use Rattle.ps_keys.proofs.KeptRows.{items_at-next, kept-at, kept-all, kept_below-few, kept-front}
 use Rattle.ps_keys.proofs.Numberings.{keys-below, keys-length, keys-match}
 use Rattle.ps_tables.proofs.Projected.{heights-at, rows-picked}
-use Rattle.ps_groups.specs.Places.{comes_again, kept_places, last_places, single_places}
+use Rattle.ps_groups.specs.KeptRows.{comes_again, kept_places, last_places, single_places}
 
 module _ (places : List ℕ) where
   -- numbers are equal where the keys of rows are the same
@@ -118,8 +118,8 @@ module _ (keys : List (List Value)) (n : Numbering) (of : Numbers keys n) where
   kept_places-few keep.None = omega (arith, keys-length keys n of, kept_below-few (length n.keys.items) (λ i. length (places_of (get_or n.keys.items i 0) n.keys.items) == 1))
 
 -- the rows of the columns at some places
-pub picked-heights : (rows : List (List Value)) (places : List ℕ) (cs : List Typed) → column_values cs ≡ map (λ i. values_at i rows) places → AllOfHeight (length rows) cs
+pub picked-heights : (rows : List (List Value)) (places : List ℕ) (cs : List Series) → column_values cs ≡ map (λ i. values_at i rows) places → AllOfHeight (length rows) cs
 picked-heights rows places cs e = heights-at rows places cs (length rows) refl e
 
-pub picked-rows : (rows : List (List Value)) (places : List ℕ) (cs : List Typed) → column_values cs ≡ map (λ i. values_at i rows) places → rows_of (length rows) (column_values cs) ≡ map (picked places) rows
+pub picked-rows : (rows : List (List Value)) (places : List ℕ) (cs : List Series) → column_values cs ≡ map (λ i. values_at i rows) places → rows_of (length rows) (column_values cs) ≡ map (picked places) rows
 picked-rows rows places cs e = ap (rows_of (length rows)) e ∙ rows-picked rows places

@@ -13,7 +13,7 @@ use Rattle.ps_frame.specs.Tables.{Fields, Frame}
 use Rattle.ps_frame.specs.Values.{same_row}
 use Rattle.ps_frame.specs.Zip.{below}
 use Rattle.ps_frame.specs.declared.value.Value.{Value}
-use Rattle.ps_plan.specs.Groups.{keys_of, rows_of_key}
+use Rattle.ps_meaning.specs.Groups.{keys_of, rows_of_key}
 use Rattle.ps_keys.specs.KeyRows.{AreBelow, places_of_each}
 use Rattle.ps_keys.specs.Numbering.{Numbers, places_of}
 use Rattle.ps_keys.specs.declared.numbering.Numbering.{Numbering}
@@ -23,7 +23,7 @@ use Rattle.ps_keys.proofs.Numberings.{distinct-length, key-matches, keys-length}
 use Rattle.ps_keys.proofs.Places.{places-push}
 use Rattle.ps_keys.proofs.RowValues.{map-map}
 use Rattle.ps_groups.specs.Grouped.{key_frame, key_frames}
-use Rattle.ps_groups.specs.Tables.{table_at}
+use Rattle.ps_groups.specs.GroupTables.{table_at}
 
 -- the places of all numbers below a count
 abbrev pub all_places : ℕ → List ℕ → List ℕ

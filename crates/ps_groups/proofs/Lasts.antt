@@ -7,7 +7,7 @@ use Rattle.std.proofs.lemmas.List.{drop-append-le, get_or_append_left, get_or_pu
 use Rattle.std.proofs.Math.Seq.{drop-length}
 use Rattle.std.proofs.lemmas.List.Folds.{list_any-append}
 use Rattle.ps_keys.specs.KeyRows.{AreBelow}
-use Rattle.ps_groups.specs.Places.{AreLasts, comes_again}
+use Rattle.ps_groups.specs.KeptRows.{AreLasts, comes_again}
 
 -- one number more
 module _ (count : ℕ) (xs lasts : List ℕ) (x : ℕ) (before : AreLasts count xs lasts) (in_count : x < count) where

@@ -11,4 +11,3 @@ pub mod GroupGives
 pub mod AggregateLoops
 pub mod Grouping
 pub mod Results
-pub mod Tested

@@ -10,7 +10,7 @@ use Rattle.ps_frame.specs.Tables.{Frame}
 use Rattle.ps_frame.specs.Zip.{below}
 use Rattle.ps_keys.proofs.FirstRows.{at-below, length-below}
 use Rattle.ps_keys.proofs.KeptRows.{map-places}
-use Rattle.ps_groups.specs.Tables.{part_in, parts_in, table_at}
+use Rattle.ps_groups.specs.GroupTables.{part_in, parts_in, table_at}
 
 -- a part of lists that were joined
 pub part-of-joined : (ps : List (List ℕ)) (k : ℕ) → k < length ps → take (length (get_or ps k [])) (drop (length (concat (take k ps))) (concat ps)) ≡ get_or ps k []

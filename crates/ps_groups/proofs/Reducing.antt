@@ -6,9 +6,9 @@ use Rattle.std.specs.List.{All, list_any}
 use Rattle.std.proofs.lemmas.Bool.{le-leb}
 use Rattle.std.proofs.lemmas.List.{length-map}
 use Rattle.std.proofs.lemmas.List.Quantifiers.{position-Some}
-use Rattle.pu_index.specs.declared.arena.Node.{Node}
-use Rattle.ps_eval.proofs.Taking.{aggregate-tree}
-use Rattle.ps_eval.specs.Wholes.{aggregated_of, aggregation_of}
+use Rattle.pu_base.specs.declared.arena.Node.{Node}
+use Rattle.ps_expr_eval.proofs.Taking.{aggregate-tree}
+use Rattle.ps_expr_eval.specs.Wholes.{aggregated_of, aggregation_of}
 use Rattle.ps_frame.specs.Aggregates.{aggregate_column, count_column, max_rows, sum_value}
 use Rattle.ps_frame.specs.Causes.{Column, value, cell_causes, cell_values, column_causes, has_cause, is_empty, whole_column}
 use Rattle.ps_frame.specs.Eval.{eval, from_whole, operand}
@@ -17,7 +17,7 @@ use Rattle.ps_frame.specs.Gathered.{rows_at}
 use Rattle.ps_frame.specs.Lawful.{FitsFrame}
 use Rattle.ps_frame.specs.Tables.{Fields, Frame, field_index, field_kind, values_at, values_at_some, whole}
 use Rattle.ps_frame.specs.Trees.{Aggregation, Tree, aggregate_tree}
-use Rattle.ps_frame.specs.Typed.{Typed, all_fit}
+use Rattle.ps_frame.specs.Series.{Series, all_fit}
 use Rattle.ps_frame.specs.Typing.{kind_over}
 use Rattle.ps_frame.specs.Values.{is_null}
 use Rattle.ps_frame.specs.Zip.{below}
@@ -27,7 +27,7 @@ use Rattle.ps_frame.specs.declared.value.DataType.{DataType}
 use Rattle.ps_frame.specs.declared.value.DataType.TheVariants as kind
 use Rattle.ps_frame.specs.declared.value.Value.{Value}
 use Rattle.ps_frame.specs.declared.value.Value.TheVariants as val
-use Rattle.ps_plan.specs.Groups.{only_value}
+use Rattle.ps_meaning.specs.Groups.{only_value}
 use Rattle.ps_keys.specs.Numbering.{places_of}
 use Rattle.ps_keys.specs.declared.numbering.Numbering.{Numbering}
 use Rattle.ps_keys.proofs.FirstRows.{at-below, length-below}
@@ -36,7 +36,7 @@ use Rattle.ps_keys.proofs.Places.{places-few}
 use Rattle.ps_keys.proofs.RowValues.{map-map}
 use Rattle.ps_groups.specs.Grouped.{IsAggregate}
 use Rattle.ps_groups.specs.Reductions.{Reduces, ReducesColumn, count_values, reduced_value, reduced_values, values_of_key}
-use Rattle.ps_groups.specs.Tables.{IsNumberingOf, group_tables, table_at}
+use Rattle.ps_groups.specs.GroupTables.{IsNumberingOf, group_tables, table_at}
 use Rattle.ps_groups.specs.declared.reductions.Reduction.{Reduction}
 use Rattle.ps_groups.specs.declared.reductions.Reduction.TheVariants as reduction
 use Rattle.ps_groups.proofs.KeyTables.{tables-fit}
@@ -140,7 +140,7 @@ module _ (f : Frame) (count : ℕ) (keys : List ℕ) (i : ℕ) (r : Reduction) w
       ∙ (λ j. map (λ k. val.IdxSize (count_values (values-picked i f.rows (places_of k keys) j))) (below count))
       ∙ ap (reduced_values f count keys) (sym is)
 
-  pub sums-reduced : (c : Typed) → slice_get (kinds_of f.schema) i ≡ Some c.kind → c.values ≡ values_at i f.rows → r ≡ reduction.Sum i
+  pub sums-reduced : (c : Series) → slice_get (kinds_of f.schema) i ≡ Some c.kind → c.values ≡ values_at i f.rows → r ≡ reduction.Sum i
       → map (λ k. sum_value (Some c.kind) (values_of_key c.values keys k)) (below count) ≡ reduced_values f count keys r
   sums-reduced c kind values is =
       (λ j. map (λ k. sum_value (sym kind j) (values_of_key (values j) keys k)) (below count))
@@ -185,7 +185,7 @@ module _ (at : ℕ) (f : Frame) (n : Numbering) (of : IsNumberingOf f n) where
     pub reduced-fit : (k : DataType) → FitsFrame f → kind_over f.schema t ≡ Some k → IsTrue (all_fit k (reduced_values f count n.keys.items r))
     reduced-fit k fits kind = subst (λ vs. IsTrue (all_fit k vs)) values-are (values-fit at k t (group_tables f n) (fit-over fits) (kinds-over t k kind))
 
-    pub is-aggregate : (c : Typed) → c.values ≡ reduced_values f count n.keys.items r → IsAggregate at (group_tables f n) t c
+    pub is-aggregate : (c : Series) → c.values ≡ reduced_values f count n.keys.items r → IsAggregate at (group_tables f n) t c
     is-aggregate c values = record {
       values = values ∙ sym values-are;
       clean = λ k d within. subst (λ (g : Frame). column_causes (eval at (whole g) t) ≡ []) (sym (table-found k d within)) (ap column_causes (one-cell k));

@@ -6,8 +6,8 @@ use Rattle.std.proofs.lemmas.Bool.{cases_eq}
 use Rattle.std.proofs.lemmas.List.{map_more}
 use Rattle.std.proofs.lemmas.List.Elements.{Contains-append_left, Contains-append_right}
 use Rattle.std.proofs.lemmas.Option.{same_Some}
-use Rattle.ps_eval.specs.Held.{IsOneOf, Keeps, cells_of, first_bad, first_fault, held_cell, held_values, or_else}
-use Rattle.ps_eval.specs.declared.part.Part.{Part}
+use Rattle.ps_expr_eval.specs.Held.{IsOneOf, Keeps, cells_of, first_bad, first_fault, held_cell, held_values, or_else}
+use Rattle.ps_expr_eval.specs.declared.computed.ComputedColumn.{ComputedColumn}
 use Rattle.ps_frame.proofs.Lists.{and_both}
 use Rattle.ps_frame.specs.Causes.{Cause, Cell, Column, value, faulty, cell_causes, cell_value, column_causes}
 use Rattle.ps_frame.specs.Eval.{eval}
@@ -15,17 +15,17 @@ use Rattle.ps_frame.specs.Evaluated.{IsFaultOf}
 use Rattle.ps_frame.specs.Lawful.{FitsFrame}
 use Rattle.ps_frame.specs.Tables.{Frame, whole}
 use Rattle.ps_frame.specs.Trees.{Tree}
-use Rattle.ps_frame.specs.Typed.{all_fit}
+use Rattle.ps_frame.specs.Series.{all_fit}
 use Rattle.ps_frame.specs.Typing.{kind_over}
 use Rattle.ps_frame.specs.Values.{fits_kind}
 use Rattle.ps_frame.specs.declared.value.DataFault.{DataFault}
 use Rattle.ps_frame.specs.declared.value.DataType.{DataType}
 use Rattle.ps_frame.specs.declared.value.Value.{Value}
 use Rattle.ps_frame.specs.declared.value.Value.TheVariants as val
-use Rattle.ps_plan.proofs.EvalFits.{eval-fits}
-use Rattle.ps_plan.proofs.Fits.{CellFits, all-get, null-fits}
-use Rattle.ps_plan.proofs.StepFits.{all-flat}
-use Rattle.ps_plan.specs.Groups.{only_value}
+use Rattle.ps_meaning.proofs.EvalFits.{eval-fits}
+use Rattle.ps_meaning.proofs.Fits.{CellFits, all-get, null-fits}
+use Rattle.ps_meaning.proofs.StepFits.{all-flat}
+use Rattle.ps_meaning.specs.Groups.{only_value}
 use Rattle.ps_zip.proofs.CausesAt.{AreAt, ColumnAt, CellAt, eval-at, fault-at}
 use Rattle.ps_groups.specs.Grouped.{GivesFirst, IsFaultOver, IsValueOf}
 
@@ -50,7 +50,7 @@ bad-cells [] f e = cc
 bad-cells (value v ∷ cells) f e = bad-cells cells f e
 bad-cells (faulty c cs ∷ cells) f e = inl (sym (same_Some c.fault f e))
 
-module _ (at : ℕ) (p : Part) (c : Column) (keeps : Keeps p c) where
+module _ (at : ℕ) (p : ComputedColumn) (c : Column) (keeps : Keeps p c) where
   held-bad : first_bad (map held_cell c.cells) ≡ first_bad (cells_of p.cells)
   held-bad = ap first_bad (sym keeps.cells)
 
@@ -80,7 +80,7 @@ module _ (at : ℕ) (p : Part) (c : Column) (keeps : Keeps p c) where
           Contains-append_left (flat_map cell_causes c.cells) c.broken (record { fault = f; node = at }) (fault-at at (flat_map cell_causes c.cells) f all found)
 
 -- what is held of an expression's column gives its value or its fault
-pub value-of : (at : ℕ) (f : Frame) (t : Tree) (p : Part) → Keeps p (eval at (whole f) t) → (outcome : Result Value DataFault) → GivesFirst p outcome → IsValueOf at f t outcome
+pub value-of : (at : ℕ) (f : Frame) (t : Tree) (p : ComputedColumn) → Keeps p (eval at (whole f) t) → (outcome : Result Value DataFault) → GivesFirst p outcome → IsValueOf at f t outcome
 value-of at f t p keeps (Ok v) g = (clean-column at p (eval at (whole f) t) keeps g.0, g.1 ∙ first-of-column at p (eval at (whole f) t) keeps g.0)
 value-of at f t p keeps (Err e) g = fault-of-column at p (eval at (whole f) t) keeps e (eval-at at f t) g
 

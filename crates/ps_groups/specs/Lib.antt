@@ -1,7 +1,6 @@
-pub mod Places
+pub mod KeptRows
 pub mod Subsets
-pub mod Tables
+pub mod GroupTables
 pub mod Reductions
 pub mod Grouped
 pub mod Errors
-pub mod Tested

@@ -1,24 +1,24 @@
 // The columns of aggregates: a value for each group.
 ghost use Rattle.std.specs.Prelude.{◌≡◌, ◌<◌, ◌≤◌, ℕ, Err, IfErr, IfOk, IfSome, IsSome, IsTrue, OnErr, OnOk, Some, get_or, length, map};
 ghost use Rattle.std.specs.List.{All, AllByRecursion, AllZip};
-ghost use Rattle.ps_eval.specs.Held.{values_of};
+ghost use Rattle.ps_expr_eval.specs.Held.{values_of};
 ghost use Rattle.ps_frame.specs.Frames.{HasKinds, kinds_of};
 ghost use Rattle.ps_frame.specs.Lawful.{FitsFrame};
 ghost use Rattle.ps_frame.specs.Tables.{Frame};
 ghost use Rattle.ps_frame.specs.Trees.{IsComplete, IsExpression, tree_at};
-ghost use Rattle.ps_frame.specs.Typed.{all_fit};
+ghost use Rattle.ps_frame.specs.Series.{all_fit};
 ghost use Rattle.ps_frame.specs.Typing.{kind_over};
 ghost use Rattle.ps_frame.specs.declared.value.Value.TheVariants as val;
 ghost use Rattle.ps_groups.specs.Errors.{IsErrorAt};
 ghost use Rattle.ps_groups.specs.Grouped.{GivesFirst, IsAggregate, IsFaultOfAny, IsFaultOver, IsValueOf, last_fields};
 ghost use Rattle.ps_groups.specs.Reductions.{ReadsWithin, reduced_values};
-ghost use Rattle.ps_groups.specs.Tables.{IsNumberingOf, group_tables};
-ghost use Rattle.ps_plan.specs.Steps.{key_trees};
+ghost use Rattle.ps_groups.specs.GroupTables.{IsNumberingOf, group_tables};
+ghost use Rattle.ps_meaning.specs.Steps.{key_trees};
 
 use crate::reductions::{Reduction, reduced, reduction_of};
-use crate::tables::{GroupTables, table_fits, tables_by_key};
-use ps_eval::evaluate::part_of;
-use ps_eval::part::{Part, Values, copy_of};
+use crate::tables::{GroupTables, tables_by_key};
+use ps_expr_eval::computed::{ComputedColumn, Values, copy_of};
+use ps_expr_eval::evaluate::part_of;
 use ps_frame::column::Column;
 use ps_frame::expr::AExpr;
 use ps_frame::frame::DataFrame;
@@ -26,10 +26,11 @@ use ps_frame::refusal::{PolarsError, PolarsResult};
 use ps_frame::schema::Schema;
 use ps_frame::value::{DataFault, DataType, Value};
 use ps_keys::numbering::Numbering;
-use ps_plan::ir::ExprIR;
+use ps_meaning::faults::fault_at;
+use ps_meaning::options::ExprIR;
+use ps_tables::fits::table_fits;
 use ps_tables::framed::column_of_values;
-use ps_zip::faults::fault_at;
-use pu_index::{Arena, Node};
+use pu_base::{Arena, Node};
 use std::alloc::{AllocError, Global};
 
 /// The columns of aggregates over the groups of a table's rows by their key numbers, whose fields are the last ones of
@@ -53,12 +54,14 @@ pub(crate) fn aggregate_columns(
     ensures columns { IfOk result (λ columns. AllZip (IsAggregate at.0 (group_tables df.now numbering.now)) (key_trees (tree_at arena.now.items) aggs.now) columns.items) }
     ensures fault { IfErr result (IsErrorAt at.0 (IsFaultOfAny at.0 (group_tables df.now numbering.now) (key_trees (tree_at arena.now.items) aggs.now))) }
 {
+    // A law: each row has a value for each field, and so have the tables of the groups.
     table_fits(df);
     let from = schema.len() - aggs.len();
     let mut tables = None;
     let mut columns = Vec::with_capacity(alloc, aggs.len())?;
     for (i, agg) in aggs.iter().enumerate() {
         let dtype = schema.kind(from + i);
+        // By hand: behind the conversion of `?` the proof would lose that this is the very error of the aggregate.
         match aggregate_column(
             alloc,
             at,
@@ -97,7 +100,7 @@ fn aggregate_column(
     ensures error { IfErr result (IsErrorAt at.0 (IsFaultOver at.0 (group_tables df.now numbering.now) (tree_at arena.now.items expr))) }
     ensures made { OnOk result (IfSome tables.new (λ made. made ≡ group_tables df.now numbering.now)) }
 {
-    // There are few enough rows that a count of them is a value.
+    // Read for its clause alone: there are few enough rows that a count of them is a value.
     let _height = df.height();
     match reduction_of(expr, arena, df.schema()) {
         Some(reduction) => reduced_column(alloc, reduction, df, numbering, dtype),
@@ -123,10 +126,8 @@ fn reduced_column(
     ensures memory { OnErr result (result ≡ Err PolarsError.OutOfMemory) }
 {
     let keys = numbering.keys.as_slice();
-    match reduced(alloc, reduction, df, keys, numbering.firsts.len()) {
-        Ok(values) => column_of_values(alloc, dtype, values),
-        Err(_) => Err(PolarsError::OutOfMemory),
-    }
+    let values = reduced(alloc, reduction, df, keys, numbering.firsts.len())?;
+    column_of_values(alloc, dtype, values)
 }
 
 // The column of an aggregate: its value over the table of each group.
@@ -188,7 +189,7 @@ fn value_of(
 }
 
 // The first value of a column, and null where there is none; or one of its faults.
-fn first_value(alloc: Global, part: Part) -> Result<Result<Value, DataFault>, AllocError>
+fn first_value(alloc: Global, part: ComputedColumn) -> Result<Result<Value, DataFault>, AllocError>
     ensures { IfOk result (GivesFirst part) }
 {
     match part.settled(alloc)? {

@@ -7,24 +7,24 @@ ghost use Rattle.ps_frame.specs.Functions.{Functions};
 ghost use Rattle.ps_frame.specs.Gathered.{rows_at};
 ghost use Rattle.ps_frame.specs.Tables.{field_index, values_at};
 ghost use Rattle.ps_frame.specs.Zip.{below};
-ghost use Rattle.ps_plan.specs.Distinct.{kept_rows, places_in, subset_places};
-ghost use Rattle.ps_plan.specs.Nodes.{GivesFrame};
-ghost use Rattle.ps_plan.specs.Steps.{distinct_step};
+ghost use Rattle.ps_meaning.specs.Distinct.{kept_rows, places_in, subset_places};
+ghost use Rattle.ps_meaning.specs.Nodes.{GivesFrame};
+ghost use Rattle.ps_meaning.specs.Steps.{distinct_step};
 ghost use Rattle.ps_keys.specs.KeyRows.{AreBelow};
-ghost use Rattle.ps_groups.specs.Places.{kept_places};
+ghost use Rattle.ps_groups.specs.KeptRows.{kept_places};
 ghost use Rattle.ps_groups.specs.Subsets.{StandIn};
 
-use crate::places::{last_rows, single_rows};
+use crate::kept_rows::{last_rows, single_rows};
 use ps_frame::column::Column;
 use ps_frame::frame::DataFrame;
 use ps_frame::items::Items;
 use ps_frame::refusal::{PolarsError, PolarsResult};
 use ps_frame::schema::Schema;
 use ps_keys::numbering::{Numbering, number_rows};
-use ps_plan::ir::{DistinctOptions, UniqueKeepStrategy};
+use ps_meaning::options::{DistinctOptions, UniqueKeepStrategy};
 use ps_rows::gathered::gathered;
 use ps_tables::cut::cut;
-use pu_order::PlSmallStr;
+use pu_base::PlSmallStr;
 use std::alloc::{AllocError, Global};
 
 /// The first or the last row of each key, or the rows whose key comes once, in the table's order; then the slice.

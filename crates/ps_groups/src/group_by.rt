@@ -7,13 +7,13 @@ ghost use Rattle.ps_frame.specs.Functions.{Functions};
 ghost use Rattle.ps_frame.specs.Gathered.{gathered};
 ghost use Rattle.ps_frame.specs.Tables.{rows_of};
 ghost use Rattle.ps_frame.specs.Trees.{tree_at};
-ghost use Rattle.ps_frame.specs.Typed.{Typed};
+ghost use Rattle.ps_frame.specs.Series.{Series};
 ghost use Rattle.ps_groups.specs.Errors.{IsErrorAt};
 ghost use Rattle.ps_groups.specs.Grouped.{CanGroup, IsAggregate, IsFaultOfGroups, all_causes, key_frames, keyed_rows, last_fields, table_groups};
 ghost use Rattle.ps_keys.specs.Numbering.{Numbers};
-ghost use Rattle.ps_plan.specs.Nodes.{GivesFrame, MayFault};
-ghost use Rattle.ps_plan.specs.Schemas.{fields_of};
-ghost use Rattle.ps_plan.specs.Steps.{group_step, key_trees, named_trees};
+ghost use Rattle.ps_meaning.specs.Nodes.{GivesFrame, MayFault};
+ghost use Rattle.ps_meaning.specs.Schemas.{fields_of};
+ghost use Rattle.ps_meaning.specs.Steps.{group_step, key_trees, named_trees};
 ghost use Rattle.ps_zip.specs.Zips.{AreTypedOver};
 
 use crate::aggregates::aggregate_columns;
@@ -23,11 +23,11 @@ use ps_frame::frame::DataFrame;
 use ps_frame::refusal::{PolarsError, PolarsResult};
 use ps_frame::schema::Schema;
 use ps_keys::numbering::{Numbering, number_rows};
-use ps_plan::ir::ExprIR;
+use ps_meaning::options::ExprIR;
 use ps_rows::keyed::{KeyedTable, keyed_table};
 use ps_tables::cut::cut;
 use ps_tables::framed::frame_of_height;
-use pu_index::{Arena, Node};
+use pu_base::{Arena, Node};
 use std::alloc::{AllocError, Global};
 
 /// A row for each group of the rows whose keys are the same: the key, and the value of each aggregate over the
@@ -51,10 +51,12 @@ pub fn group_by(
     ensures table { IfOk result (λ f. (F : Functions) (maintained : Bool) → GivesFrame F at.0 (group_step (tree_at arena.now.items) keys.now aggs.now maintained slice) (df.now ∷ []) f) }
     ensures fault { IfErr result (λ e. (F : Functions) (maintained : Bool) → MayFault F at.0 (group_step (tree_at arena.now.items) keys.now aggs.now maintained slice) (df.now ∷ []) e) }
 {
+    // By hand: behind the conversion of `?` the proof would lose that this is the very error of the zip.
     let keyed = match keyed_table(alloc, at, keys, arena, df) {
         Ok(keyed) => keyed,
         Err(error) => return Err(error),
     };
+    // By hand: behind the conversion of `?` the proof would lose that this is the very error of the groups.
     match groups_of(alloc, at, &keyed, aggs, arena, schema) {
         Ok(groups) => cut(alloc, groups, slice),
         Err(error) => Err(error),
@@ -77,6 +79,7 @@ fn groups_of(
     ensures fault { IfErr result (IsErrorAt at.0 (IsFaultOfGroups at.0 (table_groups at.0 (key_trees (tree_at arena.now.items) aggs.now) keyed.now.table keyed.now.keys.items))) }
 {
     let numbering = numbered_keys(alloc, keyed)?;
+    // By hand: behind the conversion of `?` the proof would lose that this is the very error of the aggregates.
     match values_of_groups(alloc, at, keyed, &numbering, aggs, arena, schema) {
         Ok(values) => {
             let keys = keyed.keys.as_slice();
@@ -122,7 +125,7 @@ fn rows_of_groups(
     values: Vec<Column>,
     schema: &Schema,
 ) -> PolarsResult<DataFrame>
-    requires there { All (λ (c : Typed). All (λ i. i < length c.values) firsts.now) keys.now }
+    requires there { All (λ (c : Series). All (λ i. i < length c.values) firsts.now) keys.now }
     requires fields { IsFrame schema.now (map (gathered firsts.now) keys.now ++ values.items) (length firsts.now) }
     ensures schema { IfOk result (λ f. f.schema ≡ schema.now) }
     ensures rows { IfOk result (λ f. f.rows ≡ rows_of (length firsts.now) (column_values (map (gathered firsts.now) keys.now ++ values.items))) }
@@ -138,7 +141,7 @@ fn gathered_all(
     columns: &[Column],
     rows: &[usize],
 ) -> Result<Vec<Column>, AllocError>
-    requires { All (λ (c : Typed). All (λ i. i < length c.values) rows.now) columns.now }
+    requires { All (λ (c : Series). All (λ i. i < length c.values) rows.now) columns.now }
     ensures { IfOk result (λ out. out.items ≡ map (gathered rows.now) columns.now) }
 {
     let mut out = Vec::with_capacity(alloc, columns.len())?;

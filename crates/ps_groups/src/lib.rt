@@ -5,8 +5,6 @@ mod aggregates;
 mod by_key;
 pub mod distinct;
 pub mod group_by;
-mod places;
+mod kept_rows;
 mod reductions;
 mod tables;
-#[cfg(test)]
-mod tests;

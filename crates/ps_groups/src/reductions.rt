@@ -1,18 +1,18 @@
 // Aggregates that need no table of a group.
 ghost use Rattle.std.specs.Prelude.{◌≡◌, ◌<◌, ℕ, List, IfOk, IfSome, Some, length};
-ghost use Rattle.ps_eval.specs.Wholes.{aggregation_of};
+ghost use Rattle.ps_expr_eval.specs.Wholes.{aggregation_of};
 ghost use Rattle.ps_frame.specs.Tables.{field_index};
 ghost use Rattle.ps_frame.specs.Trees.{Aggregation as AnAggregation, IsComplete, IsExpression, Tree as ATree, aggregate_tree, tree_at};
 ghost use Rattle.ps_groups.specs.Reductions.{ReadsWithin, Reduces, ReducesColumn, reduced_values};
 ghost use Rattle.ps_keys.specs.KeyRows.{AreBelow};
 
 use crate::by_key::{row_counts, sums, value_counts};
-use ps_eval::aggregate::aggregated;
+use ps_expr_eval::aggregate::aggregated;
 use ps_frame::expr::{AExpr, IRAggExpr, entry};
 use ps_frame::frame::DataFrame;
 use ps_frame::schema::Schema;
 use ps_frame::value::Value;
-use pu_index::{Arena, Node};
+use pu_base::{Arena, Node};
 use std::alloc::{AllocError, Global};
 
 /// An aggregate that needs no table of a group: each row is added to what its key has so far.
@@ -107,7 +107,7 @@ pub(crate) fn reduced(
     requires long { length keys.now ≡ length df.now.rows }
     ensures { IfOk result (λ values. values.items ≡ reduced_values df.now count keys.now reduction) }
 {
-    // There are few enough rows that a count of them takes 4 bytes.
+    // Read for its clause alone: there are few enough rows that a count of them takes 4 bytes.
     let _height = df.height();
     match reduction {
         Reduction::Len => row_counts(alloc, keys, count),

@@ -1,12 +1,9 @@
 // The tables of groups.
-ghost use Rattle.std.specs.Prelude.{◌≡◌, ◌<◌, ◌≤◌, Some, IfOk, IsTrue, length, map, take, drop, slice_get};
-ghost use Rattle.std.specs.List.{All, AllByRecursion, concat};
+ghost use Rattle.std.specs.Prelude.{◌≡◌, ◌<◌, ◌≤◌, Some, IfOk, length, map, take, drop, slice_get};
+ghost use Rattle.std.specs.List.{All, concat};
 ghost use Rattle.ps_frame.specs.Aggregates.{max_rows};
-ghost use Rattle.ps_frame.specs.Lawful.{FitsFrame};
-ghost use Rattle.ps_frame.specs.Typed.{all_fit};
-ghost use Rattle.ps_groups.specs.Tables.{IsNumberingOf, group_tables, table_at};
+ghost use Rattle.ps_groups.specs.GroupTables.{IsNumberingOf, group_tables, table_at};
 
-use ps_frame::column::Column;
 use ps_frame::frame::DataFrame;
 use ps_keys::key_rows::{RowsByKey, rows_by_key};
 use ps_keys::numbering::Numbering;
@@ -26,7 +23,7 @@ pub(crate) struct GroupTables {
 impl Model for GroupTables {
     ghost use Rattle.std.specs.Prelude.{List};
     ghost use Rattle.ps_frame.specs.Tables.{Frame};
-    ghost use Rattle.ps_groups.specs.Tables.{parts_in};
+    ghost use Rattle.ps_groups.specs.GroupTables.{parts_in};
 
     ghost Value = { List Frame };
 
@@ -94,22 +91,8 @@ pub(crate) fn tables_by_key(
     requires { IsNumberingOf df.now numbering.now }
     ensures { IfOk result (λ tables. tables ≡ group_tables df.now numbering.now) }
 {
+    // Read for its clause alone: the rows are few enough for the one table that holds all groups.
     let _height = df.height();
     let groups = rows_by_key(alloc, numbering.keys.as_slice(), numbering.firsts.len())?;
     GroupTables::new(alloc, df, groups)
-}
-
-/// Each row of a table has a value for each field: a law for proofs, which goes once over the columns.
-pub(crate) fn table_fits(df: &DataFrame)
-    ensures { FitsFrame df.now }
-{
-    columns_fit(df.get_columns());
-}
-
-fn columns_fit(columns: &[Column])
-    ensures { AllByRecursion (λ c. IsTrue (all_fit c.kind c.values)) columns.now }
-{
-    for column in columns {
-        column.values_fit();
-    }
 }

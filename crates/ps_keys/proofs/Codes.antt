@@ -5,14 +5,14 @@ use Rattle.std.proofs.Math.Seq.{get_or-append_seam}
 use Rattle.std.proofs.lemmas.Bool.{cases_eq}
 use Rattle.std.proofs.lemmas.List.{get_or-map, get_or-set_other, get_or-set_same, get_or_append_left, length-map, length_push, take_more}
 use Rattle.ps_frame.specs.Gathered.{ArePicked}
-use Rattle.ps_frame.specs.Typed.{Typed}
+use Rattle.ps_frame.specs.Series.{Series}
 use Rattle.ps_frame.specs.declared.value.Value.{Value}
 use Rattle.ps_frame.specs.declared.value.Value.TheVariants as val
 use Rattle.ps_keys.specs.Chains.{IsKeyOf, IsNumbered}
-use Rattle.ps_keys.specs.Codes.{ArePicks, Knows, code_at, with_digit}
+use Rattle.ps_keys.specs.Codes.{ArePickedColumns, Knows, code_at, with_digit}
 use Rattle.ps_keys.specs.Hashes.{HaveRow, row_at}
 use Rattle.ps_keys.specs.declared.known.KnownKeys.{KnownKeys}
-use Rattle.ps_keys.specs.declared.known.Picks.{Picks}
+use Rattle.ps_keys.specs.declared.known.PickedColumn.{PickedColumn}
 
 -- a number has only one last digit, and one number before it
 digits-same : (n a b c d : ℕ) → a < n → b < n → c * n + a ≡ d * n + b → (c ≡ d) × (a ≡ b)
@@ -32,11 +32,11 @@ module _ (values : List Value) (places : List ℕ) (count : ℕ) (are : ArePicke
   place_below : get_or places i 0 < count
   place_below = are.within i 0 place_within
 
-rest_have : (c : Typed) (cs : List Typed) (i : ℕ) → HaveRow (c ∷ cs) i → HaveRow cs i
+rest_have : (c : Series) (cs : List Series) (i : ℕ) → HaveRow (c ∷ cs) i → HaveRow cs i
 rest_have c cs i have k d within = have (suc k) d (omega arith)
 
 -- rows of the same code have the same values
-same-row : (ps : List Picks) (cs : List Typed) (c d i j : ℕ) → ArePicks ps cs → HaveRow cs i → HaveRow cs j → fold (with_digit i) c ps ≡ fold (with_digit j) d ps → (c ≡ d) × (row_at cs i ≡ row_at cs j)
+same-row : (ps : List PickedColumn) (cs : List Series) (c d i j : ℕ) → ArePickedColumns ps cs → HaveRow cs i → HaveRow cs j → fold (with_digit i) c ps ≡ fold (with_digit j) d ps → (c ≡ d) × (row_at cs i ≡ row_at cs j)
 same-row [] [] c d i j are first second e = (e, refl)
 same-row [] (t ∷ cs) c d i j are first second e = absurd are
 same-row (p ∷ ps) [] c d i j are first second e = absurd are
@@ -70,7 +70,7 @@ module _ (row : ℕ → List Value) (firsts more : List ℕ) (x n : ℕ) (is : I
     }
   ]
 
-module _ (columns : List Typed) (firsts more : List ℕ) (k : KnownKeys) (x n : ℕ) (known : Knows columns firsts k) (is : IsNumbered (row_at columns) firsts more x n) where
+module _ (columns : List Series) (firsts more : List ℕ) (k : KnownKeys) (x n : ℕ) (known : Knows columns firsts k) (is : IsNumbered (row_at columns) firsts more x n) where
   -- and the key of that row may be noted
   pub knows-noted : (l : KnownKeys) → HaveRow columns x → code_at k.picks.items x < length k.keys.items → l.picks.items ≡ k.picks.items → l.keys.items ≡ set k.keys.items (code_at k.picks.items x) (n + 1) → Knows columns more l
   knows-noted l have within same noted =
@@ -79,7 +79,7 @@ module _ (columns : List Typed) (firsts more : List ℕ) (k : KnownKeys) (x n : 
       let slot = code_at ps x in
       let are = known.picks (omega arith) in
       record {
-        picks = λ some. subst (λ qs. ArePicks qs columns) (sym same) are;
+        picks = λ some. subst (λ qs. ArePickedColumns qs columns) (sym same) are;
         keys = λ i there some.
             let place : code_at l.picks.items i ≡ code_at ps i = ap (λ qs. code_at qs i) same in
             let read : get_or l.keys.items (code_at l.picks.items i) 0 ≡ get_or (set ks slot (n + 1)) (code_at ps i) 0 = ap (λ c. get_or l.keys.items c 0) place ∙ ap (λ zs. get_or zs (code_at ps i) 0) noted in
@@ -96,14 +96,14 @@ module _ (columns : List Typed) (firsts more : List ℕ) (k : KnownKeys) (x n : 
             ];
       }
 
-ArePicks-push : (ps : List Picks) (cs : List Typed) (p : Picks) (c : Typed) → ArePicks ps cs → ArePicked c.values p.places.now p.count → ArePicks (ps ++ p ∷ []) (cs ++ c ∷ [])
-ArePicks-push [] [] p c are one = (one, tt)
-ArePicks-push [] (d ∷ cs) p c are one = absurd are
-ArePicks-push (q ∷ ps) [] p c are one = absurd are
-ArePicks-push (q ∷ ps) (d ∷ cs) p c are one = (are.0, ArePicks-push ps cs p c are.1 one)
+ArePickedColumns-push : (ps : List PickedColumn) (cs : List Series) (p : PickedColumn) (c : Series) → ArePickedColumns ps cs → ArePicked c.values p.places.now p.count → ArePickedColumns (ps ++ p ∷ []) (cs ++ c ∷ [])
+ArePickedColumns-push [] [] p c are one = (one, tt)
+ArePickedColumns-push [] (d ∷ cs) p c are one = absurd are
+ArePickedColumns-push (q ∷ ps) [] p c are one = absurd are
+ArePickedColumns-push (q ∷ ps) (d ∷ cs) p c are one = (are.0, ArePickedColumns-push ps cs p c are.1 one)
 
 -- the places of one column more
-pub picks-more : (ps qs : List Picks) (cs : List Typed) (k : ℕ) (p : Picks) (c : Typed) → k < length cs → c ≡ get_or cs k c → ArePicks ps (take k cs) → ArePicked c.values p.places.now p.count → qs ≡ ps ++ p ∷ [] → ArePicks qs (take (k + 1) cs)
+pub picks-more : (ps qs : List PickedColumn) (cs : List Series) (k : ℕ) (p : PickedColumn) (c : Series) → k < length cs → c ≡ get_or cs k c → ArePickedColumns ps (take k cs) → ArePicked c.values p.places.now p.count → qs ≡ ps ++ p ∷ [] → ArePickedColumns qs (take (k + 1) cs)
 picks-more ps qs cs k p c within at are one push =
-    subst (λ rs. ArePicks rs (take (k + 1) cs)) (sym push)
-    (subst (ArePicks (ps ++ p ∷ [])) (sym (take_more cs k c within ∙ ap (λ d. take k cs ++ d ∷ []) (sym at))) (ArePicks-push ps (take k cs) p c are one))
+    subst (λ rs. ArePickedColumns rs (take (k + 1) cs)) (sym push)
+    (subst (ArePickedColumns (ps ++ p ∷ [])) (sym (take_more cs k c within ∙ ap (λ d. take k cs ++ d ∷ []) (sym at))) (ArePickedColumns-push ps (take k cs) p c are one))

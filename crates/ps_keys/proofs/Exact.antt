@@ -9,7 +9,7 @@ use Rattle.std.proofs.lemmas.Int.{SFits-int_wrap, to_z-of_z}
 use Rattle.std.proofs.lemmas.Nat.{mul-mod_first, mul-mod_second}
 use Rattle.std.proofs.lemmas.Option.{get_or_from_slice_get}
 use Rattle.ps_frame.proofs.Lists.{both}
-use Rattle.ps_frame.specs.Typed.{Typed, all_fit}
+use Rattle.ps_frame.specs.Series.{Series, all_fit}
 use Rattle.ps_frame.specs.Values.{fits_kind}
 use Rattle.ps_frame.specs.declared.value.DataType.TheVariants as kind
 use Rattle.ps_frame.specs.declared.value.Value.{Value}
@@ -54,20 +54,20 @@ fits-at (v ∷ vs) zero fit = (both (fits_kind kind.Int64 v) (all_fit kind.Int64
 fits-at (v ∷ vs) (suc i) fit = fits-at vs i (both (fits_kind kind.Int64 v) (all_fit kind.Int64 vs) fit).1
 
 -- a column of numbers
-pub numbers-told : (c : Typed) (h : ℕ) → IsTrue (all_fit c.kind c.values) → c.kind ≡ kind.Int64 → h ≢ 0 → TellsApart (c ∷ []) h
+pub numbers-told : (c : Series) (h : ℕ) → IsTrue (all_fit c.kind c.values) → c.kind ≡ kind.Int64 → h ≢ 0 → TellsApart (c ∷ []) h
 numbers-told c h fit is some a b first second = ap (λ v. v ∷ []) (at a first ∙ sym (at b second))
   where
     at : (i : ℕ) → row_hash (row_at (c ∷ []) i) ≡ h → get_or c.values i val.Null ≡ val.Int64 (cast_signed w64 (back h))
     at i hashed = value-told (get_or c.values i val.Null) h (fits-at c.values i (subst (λ k. IsTrue (all_fit k c.values)) is fit)) some hashed
 
 -- a list of one column
-pub only : (c : Typed) (cs : List Typed) → 1 ≤ length cs → length cs < 2 → c ≡ get_or cs 0 c → cs ≡ c ∷ []
+pub only : (c : Series) (cs : List Series) → 1 ≤ length cs → length cs < 2 → c ≡ get_or cs 0 c → cs ≡ c ∷ []
 only c [] some few at = absurd (omega arith)
 only c (d ∷ []) some few at = ap (λ e. e ∷ []) (sym at)
 only c (d ∷ e ∷ cs) some few at = absurd (omega arith)
 
 -- and its rows
-pub only-value : (c : Typed) (cs : List Typed) (i : ℕ) (v : Value) → 1 ≤ length cs → length cs < 2 → c ≡ get_or cs 0 c → slice_get c.values i ≡ Some v → row_at cs i ≡ v ∷ []
+pub only-value : (c : Series) (cs : List Series) (i : ℕ) (v : Value) → 1 ≤ length cs → length cs < 2 → c ≡ get_or cs 0 c → slice_get c.values i ≡ Some v → row_at cs i ≡ v ∷ []
 only-value c cs i v some few at found =
     ap (λ ds. row_at ds i) (only c cs some few at)
     ∙ ap (λ w. w ∷ []) (get_or_from_slice_get c.values i v val.Null found)

@@ -1,5 +1,5 @@
 -- The rows that come first, and their places, as a list grows at its end.
-use Rattle.std.proofs.Common.{◌≡◌, ℕ, zero, suc, ◌+◌, ◌<◌, ◌≤◌, List, [], ◌∷◌, ◌++◌, length, get_or, take, map, Bool, true, false, cond, refl, sym, ap, subst, ◌∙◌, arith, append_assoc, inl, inr, ◌⊎◌}
+use Rattle.std.proofs.Common.{◌≡◌, ℕ, zero, suc, ◌<◌, ◌≤◌, List, [], ◌∷◌, ◌++◌, length, get_or, take, map, Bool, true, false, cond, refl, sym, ap, subst, ◌∙◌, arith, append_assoc, inl, inr, ◌⊎◌}
 use Rattle.std.specs.Prelude.{not, ◌||◌, filter as kept}
 use Rattle.std.specs.List.{list_any}
 use Rattle.std.proofs.lemmas.List.{append-nil, get_or_append_left, get_or_push, length_push, map_push, length-map, map-append, take-append-le, take_all}
@@ -8,7 +8,7 @@ use Rattle.std.proofs.lemmas.Bool.{cases_lt}
 use Rattle.ps_frame.specs.Values.{same_row}
 use Rattle.ps_frame.specs.Zip.{below}
 use Rattle.ps_frame.specs.declared.value.Value.{Value}
-use Rattle.ps_plan.specs.Distinct.{distinct_rows, first_rows, picked}
+use Rattle.ps_meaning.specs.Distinct.{distinct_rows, first_rows, picked}
 use Rattle.ps_keys.specs.Numbering.{first_places}
 use Rattle.ps_keys.proofs.SameRows.{same_row-back}
 

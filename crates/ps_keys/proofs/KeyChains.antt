@@ -3,9 +3,9 @@ use Rattle.std.proofs.Common.{◌≡◌, ◌≢◌, ℕ, zero, suc, ◌+◌, ◌
 use Rattle.std.proofs.Math.Seq.{get_or-append_seam}
 use Rattle.std.proofs.lemmas.Bool.{cases_eq, cases_lt}
 use Rattle.std.proofs.lemmas.List.{get_or-set_same, get_or-set_other, get_or_append_left, get_or-map, length-map, length-set, length_push, map_push}
-use Rattle.pu_order.specs.Hashing.{partition_of}
+use Rattle.pu_partition.specs.Partitions.{partition_of}
 use Rattle.ps_frame.specs.declared.value.Value.{Value}
-use Rattle.ps_keys.specs.declared.table.KeyTable.{KeyTable}
+use Rattle.ps_keys.specs.declared.buckets.KeyBuckets.{KeyBuckets}
 use Rattle.ps_keys.specs.Chains.{IsLast, IsChained, IsSound, buckets_of}
 use Rattle.ps_keys.specs.Hashes.{row_hash}
 
@@ -100,10 +100,10 @@ IsChained-push heads bs nexts b in_heads chained =
     }
 
 -- a table's bucket of a hash
-abbrev pub bucket_in : KeyTable → ℕ → ℕ
+abbrev pub bucket_in : KeyBuckets → ℕ → ℕ
 bucket_in t hash = partition_of hash (length t.heads.items)
 
-module _ (row : ℕ → List Value) (t : KeyTable) (i hash : ℕ) where
+module _ (row : ℕ → List Value) (t : KeyBuckets) (i hash : ℕ) where
   -- a walk along the chain of a row's bucket has come to this place: no key behind it is the row's
   pub record IsOnChain (place : ℕ) : Type 0 where
     pub within : place ≤ length t.firsts.items
@@ -159,12 +159,12 @@ module _ (row : ℕ → List Value) (t : KeyTable) (i hash : ℕ) where
       )
 
 -- each key has its link
-pub nexts-long : (row : ℕ → List Value) (t : KeyTable) → IsSound row t → length t.nexts.items ≡ length t.firsts.items
+pub nexts-long : (row : ℕ → List Value) (t : KeyBuckets) → IsSound row t → length t.nexts.items ≡ length t.firsts.items
 nexts-long row t sound =
     sound.chained.linked ∙ length-map t.hashes.items (λ h. partition_of h (length t.heads.items)) ∙ ap length sound.hashed ∙ length-map t.firsts.items (λ j. row_hash (row j))
 
 -- a table with one key more
-pub sound-push : (row : ℕ → List Value) (t u : KeyTable) (i hash bucket : ℕ) → IsSound row t → bucket ≡ bucket_in t hash → bucket < length t.heads.items → hash ≡ row_hash (row i)
+pub sound-push : (row : ℕ → List Value) (t u : KeyBuckets) (i hash bucket : ℕ) → IsSound row t → bucket ≡ bucket_in t hash → bucket < length t.heads.items → hash ≡ row_hash (row i)
     → u.heads.items ≡ set t.heads.items bucket (length u.nexts.items) → u.hashes.items ≡ t.hashes.items ++ hash ∷ [] → u.nexts.items ≡ t.nexts.items ++ get_or t.heads.items bucket 0 ∷ []
     → u.firsts.items ≡ t.firsts.items ++ i ∷ [] → IsSound row u
 sound-push row t u i hash bucket sound is within hashed heads hashes nexts firsts =

@@ -9,7 +9,7 @@ use Rattle.std.proofs.lemmas.Option.{get_or_from_slice_get, same_Some, slice_get
 use Rattle.ps_frame.specs.Values.{same_row}
 use Rattle.ps_frame.specs.Zip.{below}
 use Rattle.ps_frame.specs.declared.value.Value.{Value}
-use Rattle.ps_plan.specs.Distinct.{distinct_rows}
+use Rattle.ps_meaning.specs.Distinct.{distinct_rows}
 use Rattle.ps_keys.specs.declared.numbering.Numbering.{Numbering}
 use Rattle.ps_keys.specs.Chains.{IsNumbered}
 use Rattle.ps_keys.specs.Numbering.{Numbers, first_places}

@@ -1,11 +1,11 @@
 -- How a table finds the number of a row's key: the keys of each bucket are chained, the last one first.
 -- A place is one more than a key's number, and 0 is the end of a chain.
 use Rattle.std.specs.Prelude.{◌≡◌, ◌≢◌, ℕ, ◌-◌, ◌<◌, ◌≤◌, ◌⊎◌, List, [], ◌∷◌, ◌++◌, length, map, slice_index}
-use Rattle.pu_order.specs.Hashing.{partition_of}
-use Rattle.ps_frame.specs.Typed.{Typed}
+use Rattle.pu_partition.specs.Partitions.{partition_of}
+use Rattle.ps_frame.specs.Series.{Series}
 use Rattle.ps_keys.specs.Hashes.{HaveRow, row_hash}
 use Rattle.ps_frame.specs.declared.value.Value.{Value}
-use Rattle.ps_keys.specs.declared.table.KeyTable.{KeyTable}
+use Rattle.ps_keys.specs.declared.buckets.KeyBuckets.{KeyBuckets}
 
 -- among the first `bound` keys the last in this bucket is at this place
 pub record IsLast (buckets : List ℕ) (bucket place bound : ℕ) : Type 0 where
@@ -25,7 +25,7 @@ buckets_of count hashes = map (λ h. partition_of h count) hashes
 
 module _ (row : ℕ → List Value) where
   -- the table chains the keys of these rows by their hashes
-  pub record IsSound (t : KeyTable) : Type 0 where
+  pub record IsSound (t : KeyBuckets) : Type 0 where
     pub chained : IsChained t.heads.items (buckets_of (length t.heads.items) t.hashes.items) t.nexts.items
     pub hashed : t.hashes.items ≡ map (λ i. row_hash (row i)) t.firsts.items
 
@@ -43,5 +43,5 @@ module _ (row : ℕ → List Value) where
   IsNumbered old new i k = (IsKeyOf old i k × (new ≡ old)) ⊎ (IsNew old i × (k ≡ length old) × (new ≡ old ++ i ∷ []))
 
 -- the columns have each of these rows
-abbrev pub HaveRows : List Typed → List ℕ → Type 0
+abbrev pub HaveRows : List Series → List ℕ → Type 0
 HaveRows columns rows = (k : ℕ) → k < length rows → HaveRow columns (slice_index rows k)

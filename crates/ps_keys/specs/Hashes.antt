@@ -6,17 +6,17 @@ use Rattle.std.specs.Ordering.{int_eq}
 use Rattle.std.specs.Hash as fed
 use Rattle.std.specs.Hash.FoldHasher as folding
 use Rattle.std.specs.declared.hash.FoldHasher.{FoldHasher}
-use Rattle.ps_frame.specs.Typed.{Typed}
+use Rattle.ps_frame.specs.Series.{Series}
 use Rattle.ps_frame.specs.declared.value.Value.{Value}
 use Rattle.ps_frame.specs.declared.value.Value.TheVariants as val
 
 -- the values of columns at a row
-abbrev pub row_at : List Typed → ℕ → List Value
-row_at columns i = map (λ (c : Typed). get_or c.values i val.Null) columns
+abbrev pub row_at : List Series → ℕ → List Value
+row_at columns i = map (λ (c : Series). get_or c.values i val.Null) columns
 
 -- each column has this row
-abbrev pub HaveRow : List Typed → ℕ → Type 0
-HaveRow columns i = All (λ (c : Typed). i < length c.values) columns
+abbrev pub HaveRow : List Series → ℕ → Type 0
+HaveRow columns i = All (λ (c : Series). i < length c.values) columns
 
 -- what a value writes to a hasher: a byte for null, and else its truth value, its number or its text
 abbrev pub writes : Value → fed.HashWrites
@@ -53,5 +53,5 @@ abbrev pub row_hash : List Value → ℕ
 row_hash row = unwrap_or (alone_hash row) (fed_hash row)
 
 -- rows of this hash are equal
-abbrev pub TellsApart : List Typed → ℕ → Type 0
+abbrev pub TellsApart : List Series → ℕ → Type 0
 TellsApart columns hash = (a b : ℕ) → row_hash (row_at columns a) ≡ hash → row_hash (row_at columns b) ≡ hash → row_at columns a ≡ row_at columns b

@@ -4,7 +4,7 @@ use Rattle.std.specs.List.{list_any}
 use Rattle.ps_frame.specs.Values.{same_row}
 use Rattle.ps_frame.specs.Zip.{below}
 use Rattle.ps_frame.specs.declared.value.Value.{Value}
-use Rattle.ps_plan.specs.Distinct.{distinct_rows}
+use Rattle.ps_meaning.specs.Distinct.{distinct_rows}
 use Rattle.ps_keys.specs.declared.numbering.Numbering.{Numbering}
 
 -- the places of the rows that are unlike all rows before them

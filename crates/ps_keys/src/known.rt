@@ -4,16 +4,16 @@
 // same key, which is told without a look at the values. A key that isn't known is looked for in the table.
 ghost use Rattle.std.specs.Prelude.{◌≡◌, ◌<◌, ℕ, List, length, IfOk, IfSome, OnOk};
 ghost use Rattle.ps_keys.specs.Chains.{HaveRows, IsNumbered, IsSound};
-ghost use Rattle.ps_keys.specs.Codes.{ArePicks, Knows, code_at};
+ghost use Rattle.ps_keys.specs.Codes.{ArePickedColumns, Knows, code_at};
 ghost use Rattle.ps_keys.specs.Hashes.{HaveRow, row_at};
 
-use crate::table::KeyTable;
+use crate::buckets::KeyBuckets;
 use ps_frame::column::Column;
 use std::alloc::{AllocError, Global};
 
 /// The places of a column's values among so many.
 #[derive(Drop)]
-pub(crate) struct Picks<'a> {
+pub(crate) struct PickedColumn<'a> {
     pub(crate) places: &'a [u32],
     pub(crate) count: usize,
 }
@@ -23,7 +23,7 @@ pub(crate) struct Picks<'a> {
 /// No more than time depends on how many codes there are.
 #[derive(Drop)]
 pub(crate) struct KnownKeys<'a> {
-    pub(crate) picks: Vec<Picks<'a>>,
+    pub(crate) picks: Vec<PickedColumn<'a>>,
     pub(crate) keys: Vec<usize>,
 }
 
@@ -57,7 +57,7 @@ impl<'a> KnownKeys<'a> {
     pub(crate) fn number_of(
         &mut self,
         alloc: Global,
-        table: &mut KeyTable,
+        table: &mut KeyBuckets,
         columns: &[Column],
         row: usize,
     ) -> Result<usize, AllocError>
@@ -97,21 +97,24 @@ impl<'a> KnownKeys<'a> {
 }
 
 // The places of the values of each column, if each picks its values from others.
-fn picks_of<'a>(alloc: Global, columns: &'a [Column]) -> Result<Option<Vec<Picks<'a>>>, AllocError>
-    ensures { IfOk result (λ o. IfSome o (λ picks. ArePicks picks.items columns.now)) }
+fn picks_of<'a>(
+    alloc: Global,
+    columns: &'a [Column],
+) -> Result<Option<Vec<PickedColumn<'a>>>, AllocError>
+    ensures { IfOk result (λ o. IfSome o (λ picks. ArePickedColumns picks.items columns.now)) }
 {
     let mut picks = Vec::with_capacity(alloc, columns.len())?;
     for column in columns {
         let Some((places, count)) = column.picks() else {
             return Ok(None);
         };
-        picks.push(Picks { places, count })?;
+        picks.push(PickedColumn { places, count })?;
     }
     Ok(Some(picks))
 }
 
 // How many codes there are.
-fn code_count(picks: &[Picks]) -> usize {
+fn code_count(picks: &[PickedColumn]) -> usize {
     let mut count = 1usize;
     for picks in picks {
         count = count.saturating_mul(picks.count);
@@ -120,7 +123,7 @@ fn code_count(picks: &[Picks]) -> usize {
 }
 
 // The code of a row: the number whose digits are the places of its values.
-fn code_of(picks: &[Picks], row: usize) -> Option<usize>
+fn code_of(picks: &[PickedColumn], row: usize) -> Option<usize>
     ensures { IfSome result (λ code. code ≡ code_at picks.now row) }
 {
     let mut code = 0usize;

@@ -1,10 +1,8 @@
 // Which rows have the same key.
 #![tactic(auto)]
 
+mod buckets;
 pub mod key_rows;
 mod known;
 pub mod numbering;
 mod rows;
-mod table;
-#[cfg(test)]
-mod tests;

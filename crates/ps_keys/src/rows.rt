@@ -102,6 +102,7 @@ pub(crate) fn tells_apart(columns: &[Column], hash: u64) -> bool
     let [column] = columns else {
         return false;
     };
+    // A law: the values of a column of numbers are numbers and nulls, which tells that no others share this hash.
     column.values_fit();
     hash != 0 && column.dtype() == DataType::Int64
 }

@@ -1,4 +1,4 @@
 // What the nodes of a running query share.
 #![tactic(auto)]
 
-pub mod options;
+pub use ps_options::options;

@@ -2,17 +2,21 @@
 use Rattle.std.proofs.Common.{◌≡◌, ℕ, List, [], ◌∷◌, length, slice_get, sym, subst, inl, inr}
 use Rattle.std.specs.Prelude.{Option, Some, IsSomeAnd, Contains}
 use Rattle.std.specs.List.{AllByRecursion}
-use Rattle.pu_index.specs.declared.arena.Node.{Node}
+use Rattle.pu_base.specs.declared.arena.Node.{Node}
 use Rattle.ps_frame.specs.Functions.{Functions}
 use Rattle.ps_frame.specs.Trees.{IsComplete, tree_at}
 use Rattle.ps_plan.specs.Graph.{Reached, inputs_at, named_by}
-use Rattle.ps_plan.specs.Plans.{Plan, PlanTree, PlanTrees, node, plan_at, plan_trees_of, tree_of}
-use Rattle.ps_plan.specs.Refusals.{AreClean, IsClean, IsValid, NamesMissingFunction, TreeRefused, function_missing}
-use Rattle.ps_plan.specs.Steps.{entry_inputs, entry_step, step_exprs}
+use Rattle.ps_meaning.specs.PlanTrees.{PlanTree, PlanTrees, node}
+use Rattle.ps_plan.specs.Plans.{Plan, plan_at, plan_trees_of, tree_of}
+use Rattle.ps_meaning.specs.StepRefusals.{NamesMissingFunction}
+use Rattle.ps_plan.specs.Refusals.{AreClean, IsClean, IsValid, TreeRefused, function_missing}
+use Rattle.ps_meaning.specs.Steps.{step_exprs}
+use Rattle.ps_plan.specs.Entries.{entry_inputs, entry_step}
 use Rattle.ps_plan.specs.declared.ir.IR.{IR}
 use Rattle.ps_plan.proofs.Acyclic.{each-acyclic}
 use Rattle.ps_plan.proofs.Complete.{numbers, there}
-use Rattle.ps_plan.proofs.ReachedSteps.{contains-first, contains-later, path-then}
+use Rattle.ps_meaning.proofs.Containing.{contains-first, contains-later}
+use Rattle.ps_plan.proofs.ReachedSteps.{path-then}
 use Rattle.ps_plan.proofs.Unfolding.{complete-is, plan_at-is}
 use Rattle.ps_plan.proofs.ValidPlans.{has-shape, in-range, no-circle, reached-complete}
 

@@ -4,22 +4,25 @@ use Rattle.std.proofs.lemmas.List.{map-append}
 use Rattle.std.specs.Prelude.{Option, Some, None, map, Contains}
 use Rattle.std.specs.List.{AllByRecursion}
 use Rattle.std.proofs.lemmas.List.Elements.{Contains-append_left, Contains-append_right}
-use Rattle.pu_index.specs.declared.arena.Node.{Node}
+use Rattle.pu_base.specs.declared.arena.Node.{Node}
 use Rattle.ps_frame.specs.Trees.{Tree, AreComplete, IsComplete, IsExpression, aggregate_tree, entry_tree, tree_at, tree_within, trees_of}
 use Rattle.ps_frame.specs.declared.expr.AExpr.{AExpr}
 use Rattle.ps_frame.specs.declared.expr.AExpr.TheVariants as expr
 use Rattle.ps_frame.specs.declared.expr.IRAggExpr.{IRAggExpr}
 use Rattle.ps_frame.specs.declared.expr.IRAggExpr.TheVariants as agg
 use Rattle.ps_plan.specs.Graph.{HasNoCircle, IsInRange, Path, aggregate_operand, here, inputs_at, named_by, operands, operands_at}
-use Rattle.ps_plan.specs.Plans.{AreCompletePlans, IsCompletePlan, Plan, PlanTree, node_tree, plan_trees_of, plan_within, tree_of}
-use Rattle.ps_plan.specs.Steps.{entry_exprs, entry_inputs, entry_step, expr_nodes, exprs_of, function_step, key_trees, named_trees, step_exprs}
-use Rattle.ps_plan.specs.declared.ir.ExprIR.{ExprIR}
-use Rattle.ps_plan.specs.declared.ir.FunctionIR.{FunctionIR}
-use Rattle.ps_plan.specs.declared.ir.FunctionIR.TheVariants as call
+use Rattle.ps_meaning.specs.PlanTrees.{AreCompletePlans, IsCompletePlan, PlanTree}
+use Rattle.ps_plan.specs.Plans.{Plan, node_tree, plan_trees_of, plan_within, tree_of}
+use Rattle.ps_meaning.specs.Steps.{exprs_of, function_step, key_trees, named_trees, step_exprs}
+use Rattle.ps_plan.specs.Entries.{entry_exprs, entry_inputs, entry_step, expr_nodes}
+use Rattle.ps_meaning.specs.declared.options.ExprIR.{ExprIR}
+use Rattle.ps_meaning.specs.declared.options.FunctionIR.{FunctionIR}
+use Rattle.ps_meaning.specs.declared.options.FunctionIR.TheVariants as call
 use Rattle.ps_plan.specs.declared.ir.IR.{IR}
 use Rattle.ps_plan.specs.declared.ir.IR.TheVariants as entry
 use Rattle.ps_plan.proofs.Acyclic.{AllBelow, NoCircleFrom, each-acyclic}
-use Rattle.ps_plan.proofs.ReachedSteps.{contains-first, contains-later, path-then}
+use Rattle.ps_meaning.proofs.Containing.{contains-first, contains-later}
+use Rattle.ps_plan.proofs.ReachedSteps.{path-then}
 
 abbrev pub numbers : List Node → List ℕ
 numbers ns = map (λ (n : Node). n.0) ns

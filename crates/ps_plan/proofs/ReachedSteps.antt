@@ -1,23 +1,21 @@
 -- What holds of each reached node's step holds of each step of the tree.
 use Rattle.std.proofs.Common.{ℕ, zero, suc, List, [], ◌∷◌, length, refl, arith}
 use Rattle.std.specs.Prelude.{Option, Some, None, IfSome, map, slice_get, Contains}
-use Rattle.pu_index.specs.declared.arena.Node.{Node}
+use Rattle.pu_base.specs.declared.arena.Node.{Node}
 use Rattle.ps_frame.specs.Trees.{tree_at}
 use Rattle.ps_plan.specs.Graph.{Path, Reached, here, named_by, onward}
-use Rattle.ps_plan.specs.Laws.{EachReached, EachStep, EachStepOf}
-use Rattle.ps_plan.specs.Plans.{Plan, PlanTree, node_tree, plan_trees_of, plan_within, tree_of}
-use Rattle.ps_plan.specs.Steps.{Step, entry_inputs, entry_step}
+use Rattle.ps_meaning.specs.Laws.{EachStep, EachStepOf}
+use Rattle.ps_meaning.proofs.Containing.{contains-first, contains-later}
+use Rattle.ps_plan.specs.Graph.{EachReached}
+use Rattle.ps_meaning.specs.PlanTrees.{PlanTree}
+use Rattle.ps_plan.specs.Plans.{Plan, node_tree, plan_trees_of, plan_within, tree_of}
+use Rattle.ps_meaning.specs.Steps.{Step}
+use Rattle.ps_plan.specs.Entries.{entry_inputs, entry_step}
 use Rattle.ps_plan.specs.declared.ir.IR.{IR}
 
 pub path-then : {next : ℕ → List ℕ} {a b c : ℕ} → Path next a b → Contains (next b) c → Path next a c
 path-then here h = onward h here
 path-then (onward k way) h = onward k (path-then way h)
-
-pub contains-first : {A : Type 0} (x : A) (xs : List A) → Contains (x ∷ xs) x
-contains-first x xs = (0, omega arith, refl)
-
-pub contains-later : {A : Type 0} (x y : A) (xs : List A) → Contains xs y → Contains (x ∷ xs) y
-contains-later x y xs (k, h, e) = (suc k, omega arith, e)
 
 module _ (plan : Plan) (P : Step → Type 0) where
   each-input : (f : Node → PlanTree) (ns : List Node) → ((m : Node) → Contains (map (λ (n : Node). n.0) ns) m.0 → EachStep P (f m)) → EachStepOf P (plan_trees_of f ns)

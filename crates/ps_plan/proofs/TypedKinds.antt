@@ -2,7 +2,7 @@
 use Rattle.std.proofs.Common.{◌≡◌, ℕ, suc, ◌<◌, ◌++◌, List, [], ◌∷◌, length, slice_get, refl, ap, arith}
 use Rattle.std.specs.Prelude.{true, false, not, ◌||◌, Option, Some, None, Contains}
 use Rattle.std.specs.List.{AllByRecursion}
-use Rattle.pu_index.specs.declared.arena.Node.{Node}
+use Rattle.pu_base.specs.declared.arena.Node.{Node}
 use Rattle.ps_frame.proofs.Lists.{and_both}
 use Rattle.ps_frame.specs.Parts.{tree_parts, trees_parts}
 use Rattle.ps_frame.specs.Refusals.{is_accepted, is_left_out, is_missing, is_refused}
@@ -18,7 +18,8 @@ use Rattle.ps_plan.specs.Graph.{Path, aggregate_operand, here, named_by, operand
 use Rattle.ps_plan.specs.Plans.{Plan}
 use Rattle.ps_plan.proofs.Acyclic.{AllBelow, NoCircleFrom, each-acyclic}
 use Rattle.ps_plan.proofs.Complete.{all-both, numbers, there}
-use Rattle.ps_plan.proofs.ReachedSteps.{contains-first, contains-later, path-then}
+use Rattle.ps_meaning.proofs.Containing.{contains-first, contains-later}
+use Rattle.ps_plan.proofs.ReachedSteps.{path-then}
 
 -- no part is left out, and none is missing
 abbrev pub IsBuiltPart : Tree → Type 0

@@ -11,12 +11,14 @@ use Rattle.ps_frame.specs.Tables.{Fields}
 use Rattle.ps_frame.specs.Typing.{kind_over}
 use Rattle.ps_frame.specs.declared.value.DataType.{DataType}
 use Rattle.ps_frame.specs.declared.value.DataType.TheVariants as kind
-use Rattle.ps_plan.specs.Laws.{AreAlike}
-use Rattle.ps_plan.specs.Plans.{Plan, PlanTree, PlanTrees, node, missing, no_trees, tree}
-use Rattle.ps_plan.specs.Refusals.{AreClean, IsClean, Refusal, TypingRefused, duplicate, repeats, schema_mismatch}
-use Rattle.ps_plan.specs.Schemas.{both, expr_names, fields_of, first_schema, names_of, schema_or_empty, tree_schema, tree_schemas}
-use Rattle.ps_plan.specs.Steps.{Name, Named, Step, scan, project, select, hstack, filter, slice, sink, row_index, user, sort, union, hconcat, cache, group_by, join, distinct, left_out}
-use Rattle.ps_plan.proofs.HStackFits.{distinct-from}
+use Rattle.ps_meaning.specs.Laws.{AreAlike}
+use Rattle.ps_meaning.specs.PlanTrees.{PlanTree, PlanTrees, node, missing, no_trees, tree}
+use Rattle.ps_plan.specs.Plans.{Plan}
+use Rattle.ps_meaning.specs.StepRefusals.{Refusal, TypingRefused, duplicate, repeats, schema_mismatch}
+use Rattle.ps_plan.specs.Refusals.{AreClean, IsClean}
+use Rattle.ps_meaning.specs.Schemas.{both, expr_names, fields_of, first_schema, names_of, schema_or_empty, tree_schema, tree_schemas}
+use Rattle.ps_meaning.specs.Steps.{Name, Named, Step, scan, project, select, hstack, filter, slice, sink, row_index, user, sort, union, hconcat, cache, group_by, join, distinct, left_out}
+use Rattle.ps_meaning.proofs.HStackFits.{distinct-from}
 
 -- equality of schemas is decided
 same_kind-or : (a b : DataType) → (a ≡ b) ⊎ (a ≢ b)

@@ -2,11 +2,12 @@
 use Rattle.std.proofs.Common.{◌≡◌, ℕ, zero, suc, ◌<◌, List, [], ◌∷◌, length, slice_get, Option, refl, subst, sym, ◌∙◌, ap}
 use Rattle.std.specs.Prelude.{Some, None}
 use Rattle.std.proofs.lemmas.Option.{slice_get_within}
-use Rattle.pu_index.specs.declared.arena.Node.{Node}
+use Rattle.pu_base.specs.declared.arena.Node.{Node}
 use Rattle.ps_frame.specs.Trees.{Tree, tree_at}
 use Rattle.ps_frame.specs.declared.expr.AExpr.{AExpr}
-use Rattle.ps_plan.specs.Plans.{PlanTree, node, PlanTrees, IsCompletePlan, AreCompletePlans, IsPlan, node_tree, plan_at, plan_trees_of, plan_within}
-use Rattle.ps_plan.specs.Steps.{entry_inputs, entry_step}
+use Rattle.ps_meaning.specs.PlanTrees.{PlanTree, node, PlanTrees, IsCompletePlan, AreCompletePlans}
+use Rattle.ps_plan.specs.Plans.{IsPlan, node_tree, plan_at, plan_trees_of, plan_within}
+use Rattle.ps_plan.specs.Entries.{entry_inputs, entry_step}
 use Rattle.ps_plan.specs.declared.ir.IR.{IR}
 
 -- f gives the trees that g gives, where these are complete

@@ -3,8 +3,10 @@ use Rattle.std.proofs.Common.{ℕ, ◌<◌, ◌≤◌, ◌⊎◌, inl, inr, zero
 use Rattle.ps_frame.specs.Functions.{Functions}
 use Rattle.ps_frame.specs.declared.refusal.Why.TheVariants as why
 use Rattle.ps_plan.specs.Graph.{HasNoCircle, IsInRange, Path, Reached, here, inputs_at, onward}
-use Rattle.ps_plan.specs.Plans.{IsCompletePlan, Plan, tree_of}
-use Rattle.ps_plan.specs.Refusals.{IsMisshapen, IsValid, expr_in_circle, expr_missing, in_circle, input_missing, invalid_plan, root_missing}
+use Rattle.ps_meaning.specs.PlanTrees.{IsCompletePlan}
+use Rattle.ps_plan.specs.Plans.{Plan, tree_of}
+use Rattle.ps_meaning.specs.StepRefusals.{invalid_plan}
+use Rattle.ps_plan.specs.Refusals.{IsMisshapen, IsValid, expr_in_circle, expr_missing, in_circle, input_missing, root_missing}
 use Rattle.ps_plan.proofs.Complete.{node-is-complete}
 use Rattle.ps_plan.proofs.ReachedSteps.{path-then}
 

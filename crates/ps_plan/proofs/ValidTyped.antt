@@ -3,7 +3,7 @@ use Rattle.std.proofs.Common.{◌≡◌, ℕ, ◌++◌, List, [], ◌∷◌, sli
 use Rattle.std.specs.Prelude.{Bool, true, false, not, ◌&&◌, ◌||◌, Option, Some, None, is_some, is_none, Contains, IfSome}
 use Rattle.std.specs.List.{AllByRecursion, list_any}
 use Rattle.std.specs.Str.{bytes_eq}
-use Rattle.pu_index.specs.declared.arena.Node.{Node}
+use Rattle.pu_base.specs.declared.arena.Node.{Node}
 use Rattle.ps_frame.proofs.Lists.{and_both, both}
 use Rattle.ps_frame.proofs.Typings.{kinds-exact}
 use Rattle.ps_frame.specs.Frames.{has_name}
@@ -14,19 +14,22 @@ use Rattle.ps_frame.specs.Tables.{Fields, field_kind}
 use Rattle.ps_frame.specs.Trees.{Tree, tree_at}
 use Rattle.ps_frame.specs.Typing.{kind_over}
 use Rattle.ps_plan.specs.Graph.{here, Reached, exprs_at, named_by}
-use Rattle.ps_plan.specs.Laws.{AreTyped, EachReached, HoldsFitting, IsTyped, IsTypedStep}
+use Rattle.ps_meaning.specs.Laws.{AreTyped, HoldsFitting, IsTyped, IsTypedStep}
+use Rattle.ps_plan.specs.Graph.{EachReached}
 use Rattle.ps_plan.specs.Plans.{Plan, plan_at, plan_trees_of, tree_of}
-use Rattle.ps_plan.specs.Refusals.{IsClean, IsValid, Refusal, TypingRefused, break_rules, column_not_found, expr_left_out, lacks_column, pairs_differ, schema_mismatch, unsupported}
-use Rattle.ps_plan.specs.Schemas.{first_schema, second_schema, tree_schemas}
-use Rattle.ps_plan.specs.Sound.{have_all_kinds, have_kinds_over}
-use Rattle.ps_plan.specs.Steps.{Name, Step, scan, project, select, hstack, filter, slice, sink, row_index, user, sort, union, hconcat, cache, group_by, join, distinct, left_out, entry_exprs, entry_inputs, entry_step, exprs_of, step_exprs}
+use Rattle.ps_meaning.specs.StepRefusals.{Refusal, TypingRefused, break_rules, column_not_found, lacks_column, pairs_differ, schema_mismatch, unsupported}
+use Rattle.ps_plan.specs.Refusals.{IsClean, IsValid, expr_left_out}
+use Rattle.ps_meaning.specs.Schemas.{first_schema, second_schema, tree_schemas}
+use Rattle.ps_meaning.specs.Sound.{have_all_kinds, have_kinds_over}
+use Rattle.ps_meaning.specs.Steps.{Name, Step, scan, project, select, hstack, filter, slice, sink, row_index, user, sort, union, hconcat, cache, group_by, join, distinct, left_out, exprs_of, step_exprs}
+use Rattle.ps_plan.specs.Entries.{entry_exprs, entry_inputs, entry_step}
 use Rattle.ps_plan.specs.declared.ir.IR.{IR}
-use Rattle.ps_plan.proofs.Begins.{or-left, or-right}
+use Rattle.ps_meaning.proofs.Begins.{or-left, or-right}
 use Rattle.ps_plan.proofs.CleanPlans.{each-reached, inputs_of, made_of, reached-clean, reached-is}
 use Rattle.ps_plan.proofs.Complete.{exprs-each, numbers}
-use Rattle.ps_plan.proofs.MeaningFits.{kind-some}
-use Rattle.ps_plan.proofs.ReachedSteps.{contains-first, contains-later}
-use Rattle.ps_plan.proofs.StepFits.{or-parts, same-name}
+use Rattle.ps_meaning.proofs.MeaningFits.{kind-some}
+use Rattle.ps_meaning.proofs.Containing.{contains-first, contains-later}
+use Rattle.ps_meaning.proofs.StepFits.{or-parts, same-name}
 use Rattle.ps_plan.proofs.TypedKinds.{AreBuilt, AreFree, IsBuiltTree, accepted, all-left, all-right, expr-built}
 use Rattle.ps_plan.proofs.TypedSteps.{alike, inputs-distinct}
 use Rattle.ps_plan.proofs.ValidPlans.{in-range, no-circle}

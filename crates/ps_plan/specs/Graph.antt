@@ -1,12 +1,19 @@
 -- Paths in the arenas: what a node reaches, and what reaches itself.
 use Rattle.std.specs.Prelude.{ℕ, ◌<◌, List, length, [], ◌∷◌, map, Option, Some, None, slice_get, Contains}
-use Rattle.pu_index.specs.declared.arena.Node.{Node}
+use Rattle.pu_base.specs.declared.arena.Node.{Node}
 use Rattle.ps_frame.specs.declared.expr.AExpr.{AExpr}
 use Rattle.ps_frame.specs.declared.expr.AExpr.TheVariants as entry
 use Rattle.ps_frame.specs.declared.expr.IRAggExpr.{IRAggExpr}
 use Rattle.ps_frame.specs.declared.expr.IRAggExpr.TheVariants as agg
 use Rattle.ps_plan.specs.Plans.{Plan}
-use Rattle.ps_plan.specs.Steps.{entry_exprs, entry_inputs}
+use Rattle.ps_plan.specs.Entries.{entry_exprs, entry_inputs}
+use Rattle.std.specs.Prelude.{ℕ, List, Contains, IfSome, slice_get}
+use Rattle.ps_frame.specs.Trees.{tree_at}
+use Rattle.ps_meaning.specs.PlanTrees.{node}
+use Rattle.ps_plan.specs.Plans.{Plan}
+use Rattle.ps_meaning.specs.Steps.{Step}
+use Rattle.ps_plan.specs.Entries.{entry_step}
+use Rattle.ps_plan.specs.Entries.{entry_step}
 
 -- the expression below an aggregate
 abbrev pub aggregate_operand : IRAggExpr → Node
@@ -85,3 +92,7 @@ pub record HasNoCircle (plan : Plan) (n : ℕ) : Type 0 where
 pub record IsInRange (plan : Plan) (n : ℕ) : Type 0 where
   pub nodes : (m : ℕ) → Path (inputs_at plan) n m → m < length plan.nodes
   pub exprs : (m e : ℕ) → Path (inputs_at plan) n m → Names plan m e → e < length plan.exprs
+
+-- this holds of the step of each reached node
+abbrev pub EachReached : (Step → Type 0) → Plan → Type 0
+EachReached P plan = (n : ℕ) → Reached plan n → IfSome (slice_get plan.nodes n) (λ e. P (entry_step (tree_at plan.exprs) e))

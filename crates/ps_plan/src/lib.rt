@@ -1,10 +1,8 @@
-// Plans and their meaning.
+// Plans as arenas: their entries, what these reach, and when a plan is refused.
 #![tactic(auto)]
 
-pub mod examples;
+pub mod inputs;
 pub mod ir;
-pub mod laws;
-pub mod map;
-#[cfg(test)]
-mod tests;
 pub mod walk;
+
+pub use ps_meaning::map;

@@ -3,6 +3,4 @@
 
 pub mod list;
 pub mod numbers;
-#[cfg(test)]
-mod tests;
 pub mod value;

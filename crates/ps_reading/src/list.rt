@@ -44,6 +44,7 @@ pub fn read_list<C, T: ReadJson<C>>(
     let Some(Token::BeginArray) = reader.next() else {
         return Ok(None);
     };
+    // By `let`-`else`, so that the proof cites the value by its name.
     let Some(parts) = read_items(alloc, context, reader)? else {
         return Ok(None);
     };

@@ -7,16 +7,16 @@ use Rattle.ps_frame.specs.Frames.{all_beside, kept, column_values}
 use Rattle.ps_frame.specs.Functions.{Functions}
 use Rattle.ps_frame.specs.Tables.{Frame, beside, rows_of, whole}
 use Rattle.ps_frame.specs.Trees.{Tree}
-use Rattle.ps_frame.specs.Typed.{Typed}
+use Rattle.ps_frame.specs.Series.{Series}
 use Rattle.ps_frame.specs.Typing.{kind_over}
 use Rattle.ps_frame.specs.Values.{is_true}
 use Rattle.ps_frame.specs.declared.refusal.PolarsError.{PolarsError}
 use Rattle.ps_frame.specs.declared.value.DataType.{DataType}
 use Rattle.ps_frame.specs.declared.value.Value.{Value}
 use Rattle.ps_frame.specs.declared.value.Value.TheVariants as val
-use Rattle.ps_plan.specs.Cases.{IsCaseBrokenBy, keyed, table_of, where_true, width}
-use Rattle.ps_plan.specs.Nodes.{GivesFrame, MayFault}
-use Rattle.ps_plan.specs.Steps.{filter}
+use Rattle.ps_meaning.specs.Cases.{IsCaseBrokenBy, keyed, table_of, where_true, width}
+use Rattle.ps_meaning.specs.Nodes.{GivesFrame, MayFault}
+use Rattle.ps_meaning.specs.Steps.{filter}
 use Rattle.ps_rows.proofs.Rows.{get-front, take-front}
 use Rattle.ps_rows.proofs.Steps.{may-fault, table}
 use Rattle.ps_rows.specs.Keyed.{IsTableWithKeys}
@@ -39,28 +39,28 @@ where-kept w (row ∷ rows) (m ∷ ms) a e =
     by false ih = ih
 
 -- a single key is the mask
-record IsMask (n : ℕ) (keys : List Typed) (k : DataType) : Type 0 where
-  mask : Typed
+record IsMask (n : ℕ) (keys : List Series) (k : DataType) : Type 0 where
+  mask : Series
   only : keys ≡ mask ∷ []
   kind : mask.kind ≡ k
   height : length mask.values ≡ n
 
-only-mask : (n : ℕ) (keys : List Typed) (k : DataType) → map (λ (c : Typed). Some c.kind) keys ≡ Some k ∷ [] → AllByRecursion (λ (c : Typed). length c.values ≡ n) keys → IsMask n keys k
+only-mask : (n : ℕ) (keys : List Series) (k : DataType) → map (λ (c : Series). Some c.kind) keys ≡ Some k ∷ [] → AllByRecursion (λ (c : Series). length c.values ≡ n) keys → IsMask n keys k
 only-mask n [] k e h = cc
 only-mask n (c ∷ d ∷ keys) k e h = cc
 only-mask n (c ∷ []) k e h = record { mask = c; only = refl; kind = cc; height = h.0 }
 
 module _ (at : ℕ) (e : Tree) (t : Frame) (k : DataType) (is : kind_over t.schema e ≡ Some k) where
-  pub mask-of : (m : Frame) (keys : List Typed) → IsTableWithKeys (keyed at (e ∷ []) (whole t)) t.schema (expr_kinds t.schema (e ∷ [])) m keys
-      → (mask : Typed) × (keys ≡ mask ∷ []) × (mask.kind ≡ k) × (length mask.values ≡ length m.rows)
+  pub mask-of : (m : Frame) (keys : List Series) → IsTableWithKeys (keyed at (e ∷ []) (whole t)) t.schema (expr_kinds t.schema (e ∷ [])) m keys
+      → (mask : Series) × (keys ≡ mask ∷ []) × (mask.kind ≡ k) × (length mask.values ≡ length m.rows)
   mask-of m keys h = let o = only-mask (length m.rows) keys k (h.kinds_are ∙ ap (λ x. x ∷ []) is) h.heights in (o.mask, o.only, o.kind, o.height)
 
-  pub filter-gives : (F : Functions) (m g : Frame) (keys : List Typed) → IsTableWithKeys (keyed at (e ∷ []) (whole t)) t.schema (expr_kinds t.schema (e ∷ [])) m keys
-      → g.schema ≡ m.schema → ((mask : Typed) → slice_get keys 0 ≡ Some mask → g.rows ≡ kept mask.values m.rows) → GivesFrame F at (filter e) (t ∷ []) g
+  pub filter-gives : (F : Functions) (m g : Frame) (keys : List Series) → IsTableWithKeys (keyed at (e ∷ []) (whole t)) t.schema (expr_kinds t.schema (e ∷ [])) m keys
+      → g.schema ≡ m.schema → ((mask : Series) → slice_get keys 0 ≡ Some mask → g.rows ≡ kept mask.values m.rows) → GivesFrame F at (filter e) (t ∷ []) g
   filter-gives F m g keys h schema rows =
       let o = mask-of m keys h in
-      let there : slice_get keys 0 ≡ Some o.0 = ap (λ (ks : List Typed). slice_get ks 0) o.1 in
-      let zip_rows = h.rows ∙ ap (λ (ks : List Typed). all_beside m.rows (rows_of (length m.rows) (column_values ks))) o.1 in
+      let there : slice_get keys 0 ≡ Some o.0 = ap (λ (ks : List Series). slice_get ks 0) o.1 in
+      let zip_rows = h.rows ∙ ap (λ (ks : List Series). all_beside m.rows (rows_of (length m.rows) (column_values ks))) o.1 in
       let rows_are = rows o.0 there ∙ sym (ap (where_true (length t.schema)) zip_rows ∙ where-kept (length t.schema) m.rows o.0.values h.widths o.3) in
       let schema_is = schema ∙ h.schema_is in
       (whole g, inl (λ i. table (schema_is i) (rows_are i) (sym h.whole_is i)), refl)

@@ -8,27 +8,27 @@ use Rattle.ps_frame.proofs.Rows.{length-rows_of}
 use Rattle.ps_frame.specs.Frames.{AllOfHeight, IsFrame, all_beside, column_values, kinds_of}
 use Rattle.ps_frame.specs.Tables.{Fields, Frame, beside, rows_of}
 use Rattle.ps_frame.specs.Trees.{Tree}
-use Rattle.ps_frame.specs.Typed.{Typed}
+use Rattle.ps_frame.specs.Series.{Series}
 use Rattle.ps_frame.specs.Zip.{Zipped}
 use Rattle.ps_frame.specs.declared.value.DataType.{DataType}
 use Rattle.ps_frame.specs.declared.value.Value.{Value}
-use Rattle.ps_plan.proofs.Fits.{all-drop, all-take}
+use Rattle.ps_meaning.proofs.Fits.{all-drop, all-take}
 use Rattle.ps_rows.specs.Keyed.{IsTableWithKeys}
 use Rattle.ps_zip.specs.Zips.{KeepsZip, expr_kinds, keyed_kinds}
 
 -- the kinds of the first columns, and of the others
-record Parts (ks : List DataType) (es : List (Option DataType)) (cs : List Typed) : Type 0 where
-  front : map (λ (c : Typed). c.kind) (take (length ks) cs) ≡ ks
-  back : map (λ (c : Typed). Some c.kind) (drop (length ks) cs) ≡ es
+record Parts (ks : List DataType) (es : List (Option DataType)) (cs : List Series) : Type 0 where
+  front : map (λ (c : Series). c.kind) (take (length ks) cs) ≡ ks
+  back : map (λ (c : Series). Some c.kind) (drop (length ks) cs) ≡ es
   long : length ks ≤ length cs
   width : length (take (length ks) cs) ≡ length ks
 
-parts : (ks : List DataType) (es : List (Option DataType)) (cs : List Typed) → map (λ (c : Typed). Some c.kind) cs ≡ map Some ks ++ es → Parts ks es cs
+parts : (ks : List DataType) (es : List (Option DataType)) (cs : List Series) → map (λ (c : Series). Some c.kind) cs ≡ map Some ks ++ es → Parts ks es cs
 parts [] es cs e = record { front = refl; back = e; long = omega arith; width = refl }
 parts (k ∷ ks) es [] e = cc
 parts (k ∷ ks) es (c ∷ cs) e =
     let here : c.kind ≡ k = cc in
-    let rest : map (λ (c : Typed). Some c.kind) cs ≡ map Some ks ++ es = cc in
+    let rest : map (λ (c : Series). Some c.kind) cs ≡ map Some ks ++ es = cc in
     let p = parts ks es cs rest in
     record { front = λ i. here i ∷ p.front i; back = p.back; long = (let l = p.long in omega arith); width = ap suc p.width }
 
@@ -42,11 +42,11 @@ no-widths : (h : ℕ) → AllByRecursion (λ (row : List Value). length row ≡ 
 no-widths zero = tt
 no-widths (suc h) = (refl, no-widths h)
 
-widths : (h : ℕ) (cs : List Typed) → AllByRecursion (λ row. length row ≡ length cs) (rows_of h (column_values cs))
+widths : (h : ℕ) (cs : List Series) → AllByRecursion (λ row. length row ≡ length cs) (rows_of h (column_values cs))
 widths h [] = no-widths h
 widths h (c ∷ cs) = beside-widths (length cs) c.values (rows_of h (column_values cs)) (widths h cs)
 
-module _ (z : Zipped) (schema : Fields) (ts : List Tree) (cs : List Typed) (h : ℕ) (k : KeepsZip z (keyed_kinds schema ts) cs h) where
+module _ (z : Zipped) (schema : Fields) (ts : List Tree) (cs : List Series) (h : ℕ) (k : KeepsZip z (keyed_kinds schema ts) cs h) where
   kind-parts : Parts (kinds_of schema) (expr_kinds schema ts) cs
   kind-parts = parts (kinds_of schema) (expr_kinds schema ts) cs k.kinds_are
 
@@ -58,25 +58,25 @@ module _ (z : Zipped) (schema : Fields) (ts : List Tree) (cs : List Typed) (h : 
 
   pub front-frame : IsFrame schema (take (length schema) cs) h
   front-frame = record {
-    kinds = ap (λ n. map (λ (c : Typed). c.kind) (take n cs)) (sym width-is) ∙ kind-parts.front;
-    heights = all-take (λ (c : Typed). length c.values ≡ h) (length schema) cs k.heights;
+    kinds = ap (λ n. map (λ (c : Series). c.kind) (take n cs)) (sym width-is) ∙ kind-parts.front;
+    heights = all-take (λ (c : Series). length c.values ≡ h) (length schema) cs k.heights;
     small = k.small;
   }
 
-  pub with-keys : (t : Frame) (keys : List Typed) → t.schema ≡ schema → t.rows ≡ rows_of h (column_values (take (length schema) cs)) → keys ≡ drop (length schema) cs → IsTableWithKeys z schema (expr_kinds schema ts) t keys
+  pub with-keys : (t : Frame) (keys : List Series) → t.schema ≡ schema → t.rows ≡ rows_of h (column_values (take (length schema) cs)) → keys ≡ drop (length schema) cs → IsTableWithKeys z schema (expr_kinds schema ts) t keys
   with-keys t keys s rows back =
       let front = take (length schema) cs in
-      let back_heights : AllOfHeight h (drop (length schema) cs) = all-drop (λ (c : Typed). length c.values ≡ h) (length schema) cs k.heights in
-      let key_heights : AllOfHeight h keys = subst (λ (ds : List Typed). AllOfHeight h ds) (sym back) back_heights in
+      let back_heights : AllOfHeight h (drop (length schema) cs) = all-drop (λ (c : Series). length c.values ≡ h) (length schema) cs k.heights in
+      let key_heights : AllOfHeight h keys = subst (λ (ds : List Series). AllOfHeight h ds) (sym back) back_heights in
       let height : length t.rows ≡ h = ap length rows ∙ length-rows_of h front front-frame.heights in
       let front_width : length front ≡ length schema = ap (λ n. length (take n cs)) (sym width-is) ∙ kind-parts.width ∙ width-is in
       record {
         schema_is = s;
         whole_is = k.whole;
-        rows = k.rows ∙ ap (λ (ds : List Typed). rows_of h (column_values ds)) (sym (take-append-drop (length schema) cs) ∙ ap (λ ds. front ++ ds) (sym back))
+        rows = k.rows ∙ ap (λ (ds : List Series). rows_of h (column_values ds)) (sym (take-append-drop (length schema) cs) ∙ ap (λ ds. front ++ ds) (sym back))
             ∙ rows_of-join h h front keys key_heights refl
             ∙ (λ i. all_beside (sym rows i) (rows_of (sym height i) (column_values keys)));
         widths = subst (λ n. AllByRecursion (λ row. length row ≡ n) t.rows) front_width (subst (AllByRecursion (λ row. length row ≡ length front)) (sym rows) (widths h front));
-        kinds_are = ap (map (λ (c : Typed). Some c.kind)) (back ∙ ap (λ n. drop n cs) (sym width-is)) ∙ kind-parts.back;
+        kinds_are = ap (map (λ (c : Series). Some c.kind)) (back ∙ ap (λ n. drop n cs) (sym width-is)) ∙ kind-parts.back;
         heights = subst (λ n. AllOfHeight n keys) (sym height) key_heights;
       }

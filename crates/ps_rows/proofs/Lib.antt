@@ -6,4 +6,3 @@ pub mod Rows
 pub mod Selecting
 pub mod Sorting
 pub mod Steps
-pub mod Tested

@@ -5,7 +5,7 @@ use Rattle.std.proofs.lemmas.List.{length-map, map-append, take_more}
 use Rattle.std.specs.Prelude.{Contains, IsTrue, map, nat_lt, not, slice_get, option_map, unwrap_or, Option, Some, None, if◌then◌else◌}
 use Rattle.std.specs.List.{AllByRecursion, AllZip, position_or_len}
 use Rattle.std.specs.Str.{bytes_eq}
-use Rattle.ps_eval.proofs.Zips.{map-map, map_same}
+use Rattle.ps_expr_eval.proofs.Zips.{map-map, map_same}
 use Rattle.ps_frame.proofs.Rows.{length-rows_of, values_at-rows_of}
 use Rattle.ps_frame.specs.Aggregates.{max_rows}
 use Rattle.ps_frame.specs.Causes.{Cause}
@@ -13,20 +13,20 @@ use Rattle.ps_frame.specs.Frames.{AllOfHeight, IsFrame, column_values, has_disti
 use Rattle.ps_frame.specs.Functions.{Functions}
 use Rattle.ps_frame.specs.Tables.{Fields, Frame, field_index, field_kind, rows_of, values_at, whole}
 use Rattle.ps_frame.specs.Trees.{Tree}
-use Rattle.ps_frame.specs.Typed.{Typed}
+use Rattle.ps_frame.specs.Series.{Series}
 use Rattle.ps_frame.specs.declared.refusal.PolarsError.{PolarsError}
 use Rattle.ps_frame.specs.declared.value.DataType.{DataType}
-use Rattle.ps_plan.proofs.EvalFits.{first-place, next-place}
-use Rattle.ps_plan.proofs.HStackFits.{distinct-from, put-all}
-use Rattle.ps_plan.proofs.StepFits.{or-parts, own-kinds}
-use Rattle.ps_plan.specs.Cases.{IsCaseBrokenBy, hstack_place, hstack_places, keyed, table_of}
-use Rattle.ps_plan.specs.Distinct.{picked}
-use Rattle.ps_plan.specs.Nodes.{GivesFrame, MayFault}
-use Rattle.ps_plan.specs.Refusals.{repeats}
-use Rattle.ps_plan.specs.Schemas.{both, expr_names, fields_of, names_of, put_fields}
-use Rattle.ps_plan.specs.Steps.{Name, Named, exprs_of, hstack, key_trees, name_in, named_trees}
-use Rattle.ps_plan.specs.declared.ir.ExprIR.{ExprIR}
-use Rattle.pu_index.specs.declared.arena.Node.{Node}
+use Rattle.ps_meaning.proofs.EvalFits.{first-place, next-place}
+use Rattle.ps_meaning.proofs.HStackFits.{distinct-from, put-all}
+use Rattle.ps_meaning.proofs.StepFits.{or-parts, own-kinds}
+use Rattle.ps_meaning.specs.Cases.{IsCaseBrokenBy, hstack_place, hstack_places, keyed, table_of}
+use Rattle.ps_meaning.specs.Distinct.{picked}
+use Rattle.ps_meaning.specs.Nodes.{GivesFrame, MayFault}
+use Rattle.ps_meaning.specs.StepRefusals.{repeats}
+use Rattle.ps_meaning.specs.Schemas.{both, expr_names, fields_of, names_of, put_fields}
+use Rattle.ps_meaning.specs.Steps.{Name, Named, exprs_of, hstack, key_trees, name_in, named_trees}
+use Rattle.ps_meaning.specs.declared.options.ExprIR.{ExprIR}
+use Rattle.pu_base.specs.declared.arena.Node.{Node}
 use Rattle.ps_rows.proofs.Steps.{fields-kinds, may-fault, some-kinds, table}
 use Rattle.ps_rows.specs.Placed.{ArePlaced, TakesPlaces, new_or_old, place_in}
 use Rattle.ps_tables.proofs.Projected.{columns_at, rows-picked}
@@ -171,7 +171,7 @@ same-place n (g ∷ new) (f ∷ fs) e =
 
 -- ---- one more column, and all of them
 
-module _ (old new : Fields) (columns : List Typed) (schema : Fields) (placed : ArePlaced old new columns schema) where
+module _ (old new : Fields) (columns : List Series) (schema : Fields) (placed : ArePlaced old new columns schema) where
   field-at : (i : ℕ) (n : Name) → option_map (λ (f : Name × DataType). f.0) (slice_get schema i) ≡ Some n → (f : Name × DataType) × (slice_get schema i ≡ Some f) × (f.0 ≡ n)
   field-at i n e = by (slice_get schema i) refl e
     where
@@ -182,14 +182,14 @@ module _ (old new : Fields) (columns : List Typed) (schema : Fields) (placed : A
   pub place-within : (i : ℕ) (n : Name) → option_map (λ (f : Name × DataType). f.0) (slice_get schema i) ≡ Some n → place_in old new n < length columns
   place-within i n e =
       let f = field-at i n e in
-      let kind_there : slice_get (map (λ (c : Typed). c.kind) columns) (place_in old new f.0.0) ≡ Some f.0.1 = all-of-place (λ (f : Name × DataType). slice_get (map (λ (c : Typed). c.kind) columns) (place_in old new f.0) ≡ Some f.1) schema i f.0 placed f.1 in
-      let l = get-within (map (λ (c : Typed). c.kind) columns) (place_in old new f.0.0) f.0.1 kind_there in
-      subst (λ n. place_in old new n < length columns) f.2 (subst (λ m. place_in old new f.0.0 < m) (length-map columns (λ (c : Typed). c.kind)) l)
+      let kind_there : slice_get (map (λ (c : Series). c.kind) columns) (place_in old new f.0.0) ≡ Some f.0.1 = all-of-place (λ (f : Name × DataType). slice_get (map (λ (c : Series). c.kind) columns) (place_in old new f.0) ≡ Some f.1) schema i f.0 placed f.1 in
+      let l = get-within (map (λ (c : Series). c.kind) columns) (place_in old new f.0.0) f.0.1 kind_there in
+      subst (λ n. place_in old new n < length columns) f.2 (subst (λ m. place_in old new f.0.0 < m) (length-map columns (λ (c : Series). c.kind)) l)
 
-  pub places-more : (i : ℕ) (n : Name) (p : ℕ) (c x : Typed) (out more : List Typed) → i < length schema → option_map (λ (f : Name × DataType). f.0) (slice_get schema i) ≡ Some n → p ≡ place_in old new n → c ≡ get_or columns p c → x ≡ c
+  pub places-more : (i : ℕ) (n : Name) (p : ℕ) (c x : Series) (out more : List Series) → i < length schema → option_map (λ (f : Name × DataType). f.0) (slice_get schema i) ≡ Some n → p ≡ place_in old new n → c ≡ get_or columns p c → x ≡ c
       → TakesPlaces old new columns (take i schema) out → more ≡ out ++ x ∷ [] → TakesPlaces old new columns (take (i + 1) schema) more
   places-more i n p c x out more h e at_place is same before grown =
-      let R : Name × DataType → Typed → Type 0 = λ f c. slice_get columns (place_in old new f.0) ≡ Some c in
+      let R : Name × DataType → Series → Type 0 = λ f c. slice_get columns (place_in old new f.0) ≡ Some c in
       let f = field-at i n e in
       let front = take_more schema i f.0 h ∙ ap (λ y. take i schema ++ y ∷ []) (get-is schema i f.0 f.0 f.1) in
       let low : p < length columns = subst (λ m. m < length columns) (sym at_place) (place-within i n e) in
@@ -197,33 +197,33 @@ module _ (old new : Fields) (columns : List Typed) (schema : Fields) (placed : A
       subst (λ gs. AllZip R gs more) (sym front) (subst (AllZip R (take i schema ++ f.0 ∷ [])) (sym grown) (zip-append R (take i schema) (f.0 ∷ []) out (x ∷ []) before (there, tt)))
 
 -- columns at places are a table of the schema
-placed-kinds : (old new : Fields) (columns : List Typed) (schema : Fields) (out : List Typed) → ArePlaced old new columns schema → TakesPlaces old new columns schema out → map (λ (c : Typed). c.kind) out ≡ kinds_of schema
+placed-kinds : (old new : Fields) (columns : List Series) (schema : Fields) (out : List Series) → ArePlaced old new columns schema → TakesPlaces old new columns schema out → map (λ (c : Series). c.kind) out ≡ kinds_of schema
 placed-kinds old new columns [] [] a t = refl
 placed-kinds old new columns [] (c ∷ out) a t = absurd t
 placed-kinds old new columns (f ∷ schema) [] a t = absurd t
 placed-kinds old new columns (f ∷ schema) (c ∷ out) a t =
-    let same : Some c.kind ≡ Some f.1 = sym (get-map (λ (c : Typed). c.kind) columns (place_in old new f.0) ∙ ap (option_map (λ (c : Typed). c.kind)) t.0) ∙ a.0 in
+    let same : Some c.kind ≡ Some f.1 = sym (get-map (λ (c : Series). c.kind) columns (place_in old new f.0) ∙ ap (option_map (λ (c : Series). c.kind)) t.0) ∙ a.0 in
     let here : c.kind ≡ f.1 = cc in
     λ i. here i ∷ placed-kinds old new columns schema out a.1 t.1 i
 
-placed-heights : (old new : Fields) (columns : List Typed) (schema : Fields) (out : List Typed) (h : ℕ) → AllOfHeight h columns → TakesPlaces old new columns schema out → AllOfHeight h out
+placed-heights : (old new : Fields) (columns : List Series) (schema : Fields) (out : List Series) (h : ℕ) → AllOfHeight h columns → TakesPlaces old new columns schema out → AllOfHeight h out
 placed-heights old new columns [] [] h a t = tt
 placed-heights old new columns [] (c ∷ out) h a t = absurd t
 placed-heights old new columns (f ∷ schema) [] h a t = absurd t
-placed-heights old new columns (f ∷ schema) (c ∷ out) h a t = (all-of-place (λ (c : Typed). length c.values ≡ h) columns (place_in old new f.0) c a t.0, placed-heights old new columns schema out h a t.1)
+placed-heights old new columns (f ∷ schema) (c ∷ out) h a t = (all-of-place (λ (c : Series). length c.values ≡ h) columns (place_in old new f.0) c a t.0, placed-heights old new columns schema out h a t.1)
 
-pub placed-frame : (old new : Fields) (columns : List Typed) (schema : Fields) (out : List Typed) (h : ℕ) → ArePlaced old new columns schema → TakesPlaces old new columns schema out → AllOfHeight h columns → h ≤ max_rows → IsFrame schema out h
+pub placed-frame : (old new : Fields) (columns : List Series) (schema : Fields) (out : List Series) (h : ℕ) → ArePlaced old new columns schema → TakesPlaces old new columns schema out → AllOfHeight h columns → h ≤ max_rows → IsFrame schema out h
 placed-frame old new columns schema out h a t high small = record { kinds = placed-kinds old new columns schema out a t; heights = placed-heights old new columns schema out h high t; small = small }
 
 -- and its rows pick the values at the places
-placed-values : (old new : Fields) (columns : List Typed) (schema : Fields) (out : List Typed) (h : ℕ) → AllOfHeight h columns → TakesPlaces old new columns schema out
+placed-values : (old new : Fields) (columns : List Series) (schema : Fields) (out : List Series) (h : ℕ) → AllOfHeight h columns → TakesPlaces old new columns schema out
     → column_values out ≡ columns_at (rows_of h (column_values columns)) (map (λ (f : Name × DataType). place_in old new f.0) schema)
 placed-values old new columns [] [] h a t = refl
 placed-values old new columns [] (c ∷ out) h a t = absurd t
 placed-values old new columns (f ∷ schema) [] h a t = absurd t
 placed-values old new columns (f ∷ schema) (c ∷ out) h a t =
     let p = place_in old new f.0 in
-    let here : c.values ≡ values_at p (rows_of h (column_values columns)) = sym (values_at-rows_of h p columns c a (get-within columns p c t.0) ∙ ap (λ (c : Typed). c.values) (get-is columns p c c t.0)) in
+    let here : c.values ≡ values_at p (rows_of h (column_values columns)) = sym (values_at-rows_of h p columns c a (get-within columns p c t.0) ∙ ap (λ (c : Series). c.values) (get-is columns p c c t.0)) in
     λ i. here i ∷ placed-values old new columns schema out h a t.1 i
 
 -- ---- the step
@@ -259,8 +259,8 @@ module _ (f : Node → Tree) (at : ℕ) (es : List ExprIR) (t : Frame) (out : Fi
     new-is : names_of new ≡ names_of new-fields.0
     new-is = new-names ∙ sym (field-names es new-fields.0 new-fields.1)
 
-    module _ (columns : List Typed) (h : ℕ) (k : KeepsZip (keyed at (key_trees f es) (whole t)) (keyed_kinds t.schema (key_trees f es)) columns h) where
-      column-kinds : map (λ (c : Typed). c.kind) columns ≡ kinds_of t.schema ++ kinds_of new-fields.0
+    module _ (columns : List Series) (h : ℕ) (k : KeepsZip (keyed at (key_trees f es) (whole t)) (keyed_kinds t.schema (key_trees f es)) columns h) where
+      column-kinds : map (λ (c : Series). c.kind) columns ≡ kinds_of t.schema ++ kinds_of new-fields.0
       column-kinds =
           some-kinds columns (kinds_of t.schema ++ kinds_of new-fields.0)
           (k.kinds_are ∙ ap (λ (ks : List (Option DataType)). map Some (kinds_of t.schema) ++ ks) (fields-kinds f t.schema es new-fields.0 new-fields.1) ∙ sym (map-append Some (kinds_of t.schema) (kinds_of new-fields.0)))
@@ -269,11 +269,11 @@ module _ (f : Node → Tree) (at : ℕ) (es : List ExprIR) (t : Frame) (out : Fi
       are-placed d once =
           let e = distinct-from new-fields.0 (λ n r. once n (ap (repeats n) (sym (field-names es new-fields.0 new-fields.1)) ∙ r)) in
           subst (λ (o : Fields). ArePlaced t.schema new columns o) new-fields.2
-          (all-weaker (InPlace t.schema new-fields.0) (λ (f : Name × DataType). slice_get (map (λ (c : Typed). c.kind) columns) (place_in t.schema new f.0) ≡ Some f.1)
+          (all-weaker (InPlace t.schema new-fields.0) (λ (f : Name × DataType). slice_get (map (λ (c : Series). c.kind) columns) (place_in t.schema new f.0) ≡ Some f.1)
           (λ f h. (λ i. slice_get (column-kinds i) (new_or_old (length t.schema) (same-place f.0 new new-fields.0 new-is i) (field_index f.0 t.schema))) ∙ h)
           (put_fields t.schema new-fields.0) (all-in-place t.schema new-fields.0 d e))
 
-      pub hstack-gives : (F : Functions) (g : Frame) (outs : List Typed) → g.schema ≡ out → TakesPlaces t.schema new columns out outs → g.rows ≡ rows_of h (column_values outs) → GivesFrame F at (hstack (named_trees f es)) (t ∷ []) g
+      pub hstack-gives : (F : Functions) (g : Frame) (outs : List Series) → g.schema ≡ out → TakesPlaces t.schema new columns out outs → g.rows ≡ rows_of h (column_values outs) → GivesFrame F at (hstack (named_trees f es)) (t ∷ []) g
       hstack-gives F g outs schema places rows =
           let named = named_trees f es in
           let z = keyed at (key_trees f es) (whole t) in

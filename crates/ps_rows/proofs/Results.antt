@@ -5,8 +5,8 @@ use Rattle.ps_frame.specs.Functions.{Functions}
 use Rattle.ps_frame.specs.Tables.{Frame}
 use Rattle.ps_frame.specs.declared.refusal.PolarsError.{PolarsError}
 use Rattle.ps_frame.specs.declared.refusal.PolarsError.TheVariants as error
-use Rattle.ps_plan.specs.Nodes.{MayFault}
-use Rattle.ps_plan.specs.Steps.{Step}
+use Rattle.ps_meaning.specs.Nodes.{MayFault}
+use Rattle.ps_meaning.specs.Steps.{Step}
 
 pub if_ok : {X E : Type 0} (r : Result X E) (P Q : X → Type 0) → ((x : X) → P x → Q x) → IfOk r P → IfOk r Q
 if_ok (Ok x) P Q f h = f x h

@@ -6,11 +6,11 @@ use Rattle.std.specs.List.{AllByRecursion, range_with_len}
 use Rattle.std.proofs.lemmas.List.{map-append, take_more}
 use Rattle.ps_compute.proofs.KeyOrder.{numbers-more}
 use Rattle.ps_compute.specs.Rows.{key_row}
-use Rattle.ps_eval.proofs.KeptRows.{length-below}
+use Rattle.ps_expr_eval.proofs.KeptRows.{length-below}
 use Rattle.ps_frame.specs.Eval.{at}
 use Rattle.ps_frame.specs.Frames.{AllOfHeight, all_beside, column_values}
 use Rattle.ps_frame.specs.Tables.{beside, rows_of}
-use Rattle.ps_frame.specs.Typed.{Typed}
+use Rattle.ps_frame.specs.Series.{Series}
 use Rattle.ps_frame.specs.Zip.{below}
 use Rattle.ps_frame.specs.declared.value.Value.TheVariants as val
 
@@ -43,7 +43,7 @@ map-const y [] = refl
 map-const y (i ∷ is) = ap (λ ys. y ∷ ys) (map-const y is)
 
 -- row i has the values of each column there
-pub rows-at : (n : ℕ) (cs : List Typed) → AllOfHeight n cs → rows_of n (column_values cs) ≡ map (key_row cs) (below n)
+pub rows-at : (n : ℕ) (cs : List Series) → AllOfHeight n cs → rows_of n (column_values cs) ≡ map (key_row cs) (below n)
 rows-at n [] h = sym (map-const [] (below n) ∙ ap (λ m. replicate m []) (length-below n))
 rows-at n (c ∷ cs) h =
     ap (λ vs. beside vs (rows_of n (column_values cs))) (all-places val.Null c.values n h.0)

@@ -4,26 +4,26 @@ use Rattle.std.specs.Prelude.{Contains, map, Some, if◌then◌else◌}
 use Rattle.std.specs.List.{All, AllByRecursion, range_with_len}
 use Rattle.std.proofs.lemmas.List.{length-map}
 use Rattle.ps_compute.specs.Rows.{beside_keys, key_row, numbered}
-use Rattle.ps_eval.proofs.KeptRows.{length-below}
-use Rattle.ps_eval.proofs.Zips.{map-map}
+use Rattle.ps_expr_eval.proofs.KeptRows.{length-below}
+use Rattle.ps_expr_eval.proofs.Zips.{map-map}
 use Rattle.ps_frame.specs.Causes.{Cause}
 use Rattle.ps_frame.specs.Frames.{AllOfHeight, all_beside, column_values}
 use Rattle.ps_frame.specs.Functions.{Functions}
 use Rattle.ps_frame.specs.Sorting.{Direction, directions_of, in_order, in_order_of_keys, insert_in_order}
 use Rattle.ps_frame.specs.Tables.{Fields, Frame, Table, rows_of, whole}
 use Rattle.ps_frame.specs.Trees.{Tree}
-use Rattle.ps_frame.specs.Typed.{Typed}
+use Rattle.ps_frame.specs.Series.{Series}
 use Rattle.ps_frame.specs.Typing.{kind_over}
 use Rattle.ps_frame.specs.Zip.{below}
 use Rattle.ps_frame.specs.declared.refusal.PolarsError.{PolarsError}
 use Rattle.ps_frame.specs.declared.value.Value.{Value}
-use Rattle.ps_plan.proofs.Fits.{all-append, all-in_order, all-map}
-use Rattle.ps_plan.specs.Cases.{IsCaseBrokenBy, cut_by, if_whole, keyed, sorted_rows, table_of, width}
-use Rattle.ps_plan.specs.Nodes.{GivesFrame, MayFault}
-use Rattle.ps_plan.specs.Steps.{Cut, SortStep, key_trees, sort_step}
-use Rattle.ps_plan.specs.declared.ir.ExprIR.{ExprIR}
-use Rattle.ps_plan.specs.declared.ir.SortMultipleOptions.{SortMultipleOptions}
-use Rattle.pu_index.specs.declared.arena.Node.{Node}
+use Rattle.ps_meaning.proofs.Fits.{all-append, all-in_order, all-map}
+use Rattle.ps_meaning.specs.Cases.{IsCaseBrokenBy, cut_by, if_whole, keyed, sorted_rows, table_of, width}
+use Rattle.ps_meaning.specs.Nodes.{GivesFrame, MayFault}
+use Rattle.ps_meaning.specs.Steps.{Cut, SortStep, key_trees, sort_step}
+use Rattle.ps_meaning.specs.declared.options.ExprIR.{ExprIR}
+use Rattle.ps_meaning.specs.declared.options.SortMultipleOptions.{SortMultipleOptions}
+use Rattle.pu_base.specs.declared.arena.Node.{Node}
 use Rattle.ps_rows.proofs.Rows.{all-at, all-places, below-range, beside-each, drop-front, map-below, rows-at, take-front}
 use Rattle.ps_rows.proofs.Steps.{may-fault, table}
 use Rattle.ps_rows.specs.Keyed.{IsTableWithKeys}
@@ -33,7 +33,7 @@ use Rattle.ps_zip.specs.Zips.{IsZipError, expr_kinds}
 abbrev split : ℕ → List Value → List Value × List Value
 split w row = (drop w row, take w row)
 
-pub split-rows : (w : ℕ) (rows : List (List Value)) (keys : List Typed) → AllByRecursion (λ row. length row ≡ w) rows → AllOfHeight (length rows) keys
+pub split-rows : (w : ℕ) (rows : List (List Value)) (keys : List Series) → AllByRecursion (λ row. length row ≡ w) rows → AllOfHeight (length rows) keys
     → map (λ row. (drop w row, take w row)) (all_beside rows (rows_of (length rows) (column_values keys))) ≡ beside_keys keys (λ i. get_or rows i []) (length rows)
 split-rows w rows keys wide high =
     let item : ℕ → List Value = λ i. get_or rows i [] in
@@ -53,7 +53,7 @@ all-below n = up-to n (omega arith)
     up-to zero h = tt
     up-to (suc m) h = all-append (λ i. i < n) (below m) (m ∷ []) (up-to m (omega arith)) (omega arith, tt)
 
-pub order-places : (ds : List Direction) (keys : List Typed) (n : ℕ) → All (λ i. i < n) (in_order_of_keys ds (numbered keys n))
+pub order-places : (ds : List Direction) (keys : List Series) (n : ℕ) → All (λ i. i < n) (in_order_of_keys ds (numbered keys n))
 order-places ds keys n = λ k d h. all-at (λ i. i < n) (in_order_of_keys ds (numbered keys n)) k d h all
   where
     items : AllByRecursion (λ (p : List Value × ℕ). p.1 < n) (numbered keys n)
@@ -75,7 +75,7 @@ module _ {A : Type 0} (less : A → A → Bool) where
   length-order [] = refl
   length-order (x ∷ xs) = length-insert x (in_order less xs) ∙ ap suc (length-order xs)
 
-pub order-length : (ds : List Direction) (keys : List Typed) (n : ℕ) → length (in_order_of_keys ds (numbered keys n)) ≡ n
+pub order-length : (ds : List Direction) (keys : List Series) (n : ℕ) → length (in_order_of_keys ds (numbered keys n)) ≡ n
 order-length ds keys n =
     length-map _ (λ (p : List Value × ℕ). p.1) ∙ length-order _ (numbered keys n) ∙ length-map (range_with_len 0 n) (λ i. (key_row keys i, i)) ∙ ap length (sym (below-range n)) ∙ length-below n
 
@@ -85,10 +85,10 @@ if-whole-broken s [] T c m = absurd (let l = m.1 in omega arith)
 if-whole-broken s (x ∷ xs) T c m = m
 
 module _ (f : Node → Tree) (at : ℕ) (by : List ExprIR) (slice : Cut) (options : SortMultipleOptions) (t : Frame) where
-  keys-count : (keys : List Typed) → map (λ (c : Typed). Some c.kind) keys ≡ expr_kinds t.schema (key_trees f by) → length keys ≡ length (key_trees f by)
-  keys-count keys e = sym (length-map keys (λ (c : Typed). Some c.kind)) ∙ ap length e ∙ length-map (key_trees f by) (kind_over t.schema)
+  keys-count : (keys : List Series) → map (λ (c : Series). Some c.kind) keys ≡ expr_kinds t.schema (key_trees f by) → length keys ≡ length (key_trees f by)
+  keys-count keys e = sym (length-map keys (λ (c : Series). Some c.kind)) ∙ ap length e ∙ length-map (key_trees f by) (kind_over t.schema)
 
-  pub sort-gives : (F : Functions) (m sorted g : Frame) (keys : List Typed) → IsTableWithKeys (keyed at (key_trees f by) (whole t)) t.schema (expr_kinds t.schema (key_trees f by)) m keys → sorted.schema ≡ m.schema
+  pub sort-gives : (F : Functions) (m sorted g : Frame) (keys : List Series) → IsTableWithKeys (keyed at (key_trees f by) (whole t)) t.schema (expr_kinds t.schema (key_trees f by)) m keys → sorted.schema ≡ m.schema
       → sorted.rows ≡ in_order_of_keys (directions_of (length keys) options.descending options.nulls_last) (beside_keys keys (λ i. get_or m.rows i []) (length m.rows)) → whole g ≡ cut_by slice (whole sorted)
       → GivesFrame F at (sort_step f by slice options) (t ∷ []) g
   sort-gives F m sorted g keys h schema rows part =

@@ -12,14 +12,14 @@ use Rattle.ps_frame.specs.declared.refusal.PolarsError.{PolarsError}
 use Rattle.ps_frame.specs.declared.value.DataType.{DataType}
 use Rattle.ps_frame.specs.declared.value.Value.{Value}
 use Rattle.ps_frame.specs.Frames.{kinds_of}
-use Rattle.ps_frame.specs.Typed.{Typed}
-use Rattle.ps_plan.specs.Cases.{IsCaseBrokenBy}
-use Rattle.ps_plan.specs.Meaning.{HasLargeColumn, IsLargeStep}
-use Rattle.ps_plan.specs.Nodes.{MayFault}
-use Rattle.ps_plan.specs.Schemas.{both, fields_of}
-use Rattle.ps_plan.specs.Steps.{Step, key_trees, name_in, named_trees}
-use Rattle.ps_plan.specs.declared.ir.ExprIR.{ExprIR}
-use Rattle.pu_index.specs.declared.arena.Node.{Node}
+use Rattle.ps_frame.specs.Series.{Series}
+use Rattle.ps_meaning.specs.Cases.{IsCaseBrokenBy}
+use Rattle.ps_meaning.specs.Meaning.{HasLargeColumn, IsLargeStep}
+use Rattle.ps_meaning.specs.Nodes.{MayFault}
+use Rattle.ps_meaning.specs.Schemas.{both, fields_of}
+use Rattle.ps_meaning.specs.Steps.{Step, key_trees, name_in, named_trees}
+use Rattle.ps_meaning.specs.declared.options.ExprIR.{ExprIR}
+use Rattle.pu_base.specs.declared.arena.Node.{Node}
 use Rattle.ps_zip.specs.Zips.{AreTypedOver, IsZipError, expr_kinds}
 
 -- the table of a schema, rows and causes
@@ -62,11 +62,11 @@ module _ (f : Node → Tree) (s : Fields) where
   fields-typed es out complete q = (complete, have-kinds (key_trees f es) (kinds_of out) (typed-kinds es out q))
 
 -- kinds that are there
-pub some-kinds : (cs : List Typed) (ks : List DataType) → map (λ (c : Typed). Some c.kind) cs ≡ map Some ks → map (λ (c : Typed). c.kind) cs ≡ ks
+pub some-kinds : (cs : List Series) (ks : List DataType) → map (λ (c : Series). Some c.kind) cs ≡ map Some ks → map (λ (c : Series). c.kind) cs ≡ ks
 some-kinds [] [] e = refl
 some-kinds [] (k ∷ ks) e = cc
 some-kinds (c ∷ cs) [] e = cc
 some-kinds (c ∷ cs) (k ∷ ks) e =
     let here : c.kind ≡ k = cc in
-    let rest : map (λ (c : Typed). Some c.kind) cs ≡ map Some ks = cc in
+    let rest : map (λ (c : Series). Some c.kind) cs ≡ map Some ks = cc in
     λ i. here i ∷ some-kinds cs ks rest i

@@ -3,19 +3,19 @@ ghost use Rattle.std.specs.Prelude.{◌≡◌, ◌∷◌, [], Err, IfErr, IfOk, 
 ghost use Rattle.ps_frame.specs.Frames.{kept};
 ghost use Rattle.ps_frame.specs.Functions.{Functions};
 ghost use Rattle.ps_frame.specs.Trees.{IsExpression, tree_at};
-ghost use Rattle.ps_frame.specs.Typed.{Typed};
+ghost use Rattle.ps_frame.specs.Series.{Series};
 ghost use Rattle.ps_frame.specs.Typing.{kind_over};
 ghost use Rattle.ps_frame.specs.declared.value.DataType.TheVariants as kind;
-ghost use Rattle.ps_plan.specs.Nodes.{GivesFrame, MayFault};
-ghost use Rattle.ps_plan.specs.Steps.{filter as filter_step};
+ghost use Rattle.ps_meaning.specs.Nodes.{GivesFrame, MayFault};
+ghost use Rattle.ps_meaning.specs.Steps.{filter as filter_step};
 
 use crate::keyed::{KeyedTable, keyed_table};
 use ps_frame::column::Column;
 use ps_frame::expr::AExpr;
 use ps_frame::frame::DataFrame;
 use ps_frame::refusal::{PolarsError, PolarsResult};
-use ps_plan::ir::ExprIR;
-use pu_index::{Arena, Node};
+use ps_meaning::options::ExprIR;
+use pu_base::{Arena, Node};
 use std::alloc::Global;
 use std::slice;
 
@@ -36,6 +36,7 @@ pub fn filter(
     ensures table { IfOk result (λ f. (F : Functions) → GivesFrame F at.0 (filter_step (tree_at arena.now.items predicate.now.node)) (df.now ∷ []) f) }
     ensures fault { IfErr result (λ e. (F : Functions) → MayFault F at.0 (filter_step (tree_at arena.now.items predicate.now.node)) (df.now ∷ []) e) }
 {
+    // By hand: behind the conversion of `?` the proof would lose that this is the very error of the zip.
     match keyed_table(alloc, at, slice::from_ref(predicate), arena, df) {
         Ok(keyed) => rows_where_true(alloc, &keyed),
         Err(error) => Err(error),
@@ -44,9 +45,9 @@ pub fn filter(
 
 // The rows of a table beside which its only key is true.
 fn rows_where_true(alloc: Global, keyed: &KeyedTable) -> PolarsResult<DataFrame>
-    requires { (mask : Typed) × (keyed.now.keys.items ≡ mask ∷ []) × (mask.kind ≡ kind.Boolean) × (length mask.values ≡ length keyed.now.table.rows) }
+    requires { (mask : Series) × (keyed.now.keys.items ≡ mask ∷ []) × (mask.kind ≡ kind.Boolean) × (length mask.values ≡ length keyed.now.table.rows) }
     ensures schema { IfOk result (λ f. f.schema ≡ keyed.now.table.schema) }
-    ensures rows { IfOk result (λ f. (mask : Typed) → slice_get keyed.now.keys.items 0 ≡ Some mask → f.rows ≡ kept mask.values keyed.now.table.rows) }
+    ensures rows { IfOk result (λ f. (mask : Series) → slice_get keyed.now.keys.items 0 ≡ Some mask → f.rows ≡ kept mask.values keyed.now.table.rows) }
     ensures memory { OnErr result (result ≡ Err PolarsError.OutOfMemory) }
 {
     filtered(alloc, &keyed.table, &keyed.keys[0])

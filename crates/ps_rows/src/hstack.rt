@@ -6,12 +6,12 @@ ghost use Rattle.ps_frame.specs.Frames.{AllOfHeight, column_values};
 ghost use Rattle.ps_frame.specs.Functions.{Functions};
 ghost use Rattle.ps_frame.specs.Tables.{rows_of};
 ghost use Rattle.ps_frame.specs.Trees.{IsComplete, tree_at};
-ghost use Rattle.ps_frame.specs.Typed.{Typed};
-ghost use Rattle.ps_plan.specs.Nodes.{GivesFrame, MayFault};
-ghost use Rattle.ps_plan.specs.Refusals.{repeats};
-ghost use Rattle.ps_plan.specs.Schemas.{expr_names, fields_of, names_of, put_fields};
-ghost use Rattle.ps_plan.specs.Steps.{hstack as hstack_step, key_trees, name_in, named_trees};
-ghost use Rattle.ps_plan.specs.declared.ir.ExprIR.{ExprIR as AExprIR};
+ghost use Rattle.ps_frame.specs.Series.{Series};
+ghost use Rattle.ps_meaning.specs.Nodes.{GivesFrame, MayFault};
+ghost use Rattle.ps_meaning.specs.StepRefusals.{repeats};
+ghost use Rattle.ps_meaning.specs.Schemas.{expr_names, fields_of, names_of, put_fields};
+ghost use Rattle.ps_meaning.specs.Steps.{hstack as hstack_step, key_trees, name_in, named_trees};
+ghost use Rattle.ps_meaning.specs.declared.options.ExprIR.{ExprIR as AExprIR};
 ghost use Rattle.ps_rows.specs.Placed.{ArePlaced, TakesPlaces, place_in};
 
 use ps_frame::column::Column;
@@ -20,11 +20,10 @@ use ps_frame::frame::DataFrame;
 use ps_frame::refusal::{PolarsError, PolarsResult};
 use ps_frame::schema::Schema;
 use ps_frame::value::DataType;
-use ps_plan::ir::{ExprIR, OutputName};
+use ps_meaning::options::{ExprIR, OutputName};
 use ps_tables::framed::{frame_of_height, shared};
 use ps_zip::zips::{Zip, zip_keyed};
-use pu_index::{Arena, Node};
-use pu_order::PlSmallStr;
+use pu_base::{Arena, Node, PlSmallStr};
 use std::alloc::Global;
 
 /// The table of an hstack at the node `at`: the columns of a table and those of expressions over it, under the schema
@@ -46,10 +45,13 @@ pub fn hstack(
     ensures table { IfOk result (λ f. (F : Functions) → GivesFrame F at.0 (hstack_step (named_trees (tree_at arena.now.items) exprs.now)) (df.now ∷ []) f) }
     ensures fault { IfErr result (λ e. (F : Functions) → MayFault F at.0 (hstack_step (named_trees (tree_at arena.now.items) exprs.now)) (df.now ∷ []) e) }
 {
+    // A law: no two fields have one name, so each name has one place.
     df.schema().names_differ();
+    // By hand: only memory can be wanting there, and to say so here spares the names a clause on errors.
     let Ok(new) = new_names(alloc, exprs) else {
         return Err(PolarsError::OutOfMemory);
     };
+    // By hand: behind the conversion of `?` the proof would lose that this is the very error of the zip.
     match zip_keyed(alloc, at, exprs, arena, df) {
         Ok(zip) => placed(alloc, df.schema(), &new, &zip, schema),
         Err(error) => Err(error),
@@ -99,9 +101,10 @@ fn placed(
     requires places { ArePlaced old.now new.now zip.now.columns.items schema.now }
     requires zip { AllOfHeight zip.now.height zip.now.columns.items × (zip.now.height ≤ max_rows) }
     ensures schema { IfOk result (λ f. f.schema ≡ schema.now) }
-    ensures rows { IfOk result (λ f. (columns : List Typed) × TakesPlaces old.now new.now zip.now.columns.items schema.now columns × (f.rows ≡ rows_of zip.now.height (column_values columns))) }
+    ensures rows { IfOk result (λ f. (columns : List Series) × TakesPlaces old.now new.now zip.now.columns.items schema.now columns × (f.rows ≡ rows_of zip.now.height (column_values columns))) }
     ensures memory { OnErr result (result ≡ Err PolarsError.OutOfMemory) }
 {
+    // By hand: only memory can be wanting there, and to say so here spares the columns a clause on errors.
     match columns_at_places(alloc, old, new, zip.columns.as_slice(), schema) {
         Ok(columns) => frame_of_height(alloc, schema, columns, zip.height),
         Err(_) => Err(PolarsError::OutOfMemory),

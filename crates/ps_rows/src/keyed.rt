@@ -3,8 +3,8 @@ ghost use Rattle.std.specs.Prelude.{◌≡◌, ◌≤◌, Err, IfErr, IfOk, OnEr
 ghost use Rattle.ps_frame.specs.Frames.{IsFrame, column_values};
 ghost use Rattle.ps_frame.specs.Tables.{rows_of, whole};
 ghost use Rattle.ps_frame.specs.Trees.{tree_at};
-ghost use Rattle.ps_plan.specs.Cases.{keyed as keyed_zip};
-ghost use Rattle.ps_plan.specs.Steps.{key_trees};
+ghost use Rattle.ps_meaning.specs.Cases.{keyed as keyed_zip};
+ghost use Rattle.ps_meaning.specs.Steps.{key_trees};
 ghost use Rattle.ps_rows.specs.Keyed.{IsTableWithKeys};
 ghost use Rattle.ps_zip.specs.Zips.{AreTypedOver, IsZipError, expr_kinds};
 
@@ -13,10 +13,10 @@ use ps_frame::expr::AExpr;
 use ps_frame::frame::DataFrame;
 use ps_frame::refusal::{PolarsError, PolarsResult};
 use ps_frame::schema::Schema;
-use ps_plan::ir::ExprIR;
+use ps_meaning::options::ExprIR;
 use ps_tables::framed::frame_of_height;
 use ps_zip::zips::{Zip, zip_keyed};
-use pu_index::{Arena, Node};
+use pu_base::{Arena, Node};
 use std::alloc::Global;
 
 /// A table, and columns of its height.
@@ -40,6 +40,7 @@ pub fn keyed_table(
     ensures table { IfOk result (λ k. IsTableWithKeys (keyed_zip at.0 (key_trees (tree_at arena.now.items) exprs.now) (whole df.now)) df.now.schema (expr_kinds df.now.schema (key_trees (tree_at arena.now.items) exprs.now)) k.table k.keys.items) }
     ensures error { IfErr result (IsZipError at.0 (key_trees (tree_at arena.now.items) exprs.now) (whole df.now) (keyed_zip at.0 (key_trees (tree_at arena.now.items) exprs.now) (whole df.now))) }
 {
+    // By hand: behind the conversion of `?` the proof would lose that this is the very error of the zip.
     match zip_keyed(alloc, at, exprs, arena, df) {
         Ok(zip) => parted(alloc, df.schema(), zip),
         Err(error) => Err(error),
@@ -56,11 +57,7 @@ fn parted(alloc: Global, schema: &Schema, zip: Zip) -> PolarsResult<KeyedTable>
     ensures memory { OnErr result (result ≡ Err PolarsError.OutOfMemory) }
 {
     let mut columns = zip.columns;
-    let Ok(keys) = columns.split_off(schema.len()) else {
-        return Err(PolarsError::OutOfMemory);
-    };
-    match frame_of_height(alloc, schema, columns, zip.height) {
-        Ok(table) => Ok(KeyedTable { table, keys }),
-        Err(_) => Err(PolarsError::OutOfMemory),
-    }
+    let keys = columns.split_off(schema.len())?;
+    let table = frame_of_height(alloc, schema, columns, zip.height)?;
+    Ok(KeyedTable { table, keys })
 }

@@ -7,5 +7,3 @@ pub mod hstack;
 pub mod keyed;
 pub mod select;
 pub mod sort;
-#[cfg(test)]
-mod tests;

@@ -5,9 +5,9 @@ ghost use Rattle.ps_frame.specs.Functions.{Functions};
 ghost use Rattle.ps_frame.specs.Sorting.{directions_of, in_order_of_keys};
 ghost use Rattle.ps_frame.specs.Tables.{Frame, whole};
 ghost use Rattle.ps_frame.specs.Trees.{tree_at};
-ghost use Rattle.ps_plan.specs.Cases.{cut_by};
-ghost use Rattle.ps_plan.specs.Nodes.{GivesFrame, MayFault};
-ghost use Rattle.ps_plan.specs.Steps.{key_trees, sort_step};
+ghost use Rattle.ps_meaning.specs.Cases.{cut_by};
+ghost use Rattle.ps_meaning.specs.Nodes.{GivesFrame, MayFault};
+ghost use Rattle.ps_meaning.specs.Steps.{key_trees, sort_step};
 ghost use Rattle.ps_zip.specs.Zips.{AreTypedOver};
 
 use crate::gathered::gathered;
@@ -16,9 +16,9 @@ use ps_compute::order::{directions_for, sorted_rows};
 use ps_frame::expr::AExpr;
 use ps_frame::frame::DataFrame;
 use ps_frame::refusal::{PolarsError, PolarsResult};
-use ps_plan::ir::{ExprIR, SortMultipleOptions};
+use ps_meaning::options::{ExprIR, SortMultipleOptions};
 use ps_tables::cut::cut;
-use pu_index::{Arena, Node};
+use pu_base::{Arena, Node};
 use std::alloc::Global;
 
 /// The table of a sort at the node `at`: the rows of a table in the stable order of expressions over it, and of these
@@ -39,6 +39,7 @@ pub fn sort(
     ensures table { IfOk result (λ f. (F : Functions) → GivesFrame F at.0 (sort_step (tree_at arena.now.items) by.now slice options.now) (df.now ∷ []) f) }
     ensures fault { IfErr result (λ e. (F : Functions) → MayFault F at.0 (sort_step (tree_at arena.now.items) by.now slice options.now) (df.now ∷ []) e) }
 {
+    // By hand: behind the conversion of `?` the proof would lose that this is the very error of the zip.
     match keyed_table(alloc, at, by, arena, df) {
         Ok(keyed) => sorted_part(alloc, &keyed, slice, options),
         Err(error) => Err(error),
@@ -55,10 +56,8 @@ fn sorted_part(
     ensures part { IfOk result (λ f. (sorted : Frame) × (sorted.schema ≡ keyed.now.table.schema) × (sorted.rows ≡ in_order_of_keys (directions_of (length keyed.now.keys.items) options.now.descending options.now.nulls_last) (beside_keys keyed.now.keys.items (λ i. get_or keyed.now.table.rows i []) (length keyed.now.table.rows))) × (whole f ≡ cut_by slice (whole sorted))) }
     ensures memory { OnErr result (result ≡ Err PolarsError.OutOfMemory) }
 {
-    match sorted(alloc, keyed, options) {
-        Ok(table) => cut(alloc, table, slice),
-        Err(error) => Err(error),
-    }
+    let table = sorted(alloc, keyed, options)?;
+    cut(alloc, table, slice)
 }
 
 // The rows of a table in the order of its keys.

@@ -3,4 +3,3 @@ pub mod ByRow
 pub mod Ignoring
 pub mod RowLaws
 pub mod OneCell
-pub mod Tested

@@ -22,8 +22,8 @@ use Rattle.ps_frame.specs.declared.value.DataType.{DataType}
 use Rattle.ps_frame.specs.declared.value.DataType.TheVariants as kind
 use Rattle.ps_frame.specs.declared.value.Value.{Value}
 use Rattle.ps_frame.specs.declared.value.Value.TheVariants as val
-use Rattle.ps_plan.proofs.Begins.{append-empty_left, append-empty_right}
-use Rattle.ps_plan.proofs.Under.{causes-nonempty}
+use Rattle.ps_meaning.proofs.Begins.{append-empty_left, append-empty_right}
+use Rattle.ps_meaning.proofs.Under.{causes-nonempty}
 use Rattle.ps_rowwise.specs.Rows.{HasKind}
 use Rattle.ps_rowwise.proofs.ByRow.{binary-kinds, both, cast-kinds, function-kinds, if-kind, some-kind, ternary-kinds}
 use Rattle.ps_rowwise.proofs.Standing.{least-same, lengths-same}

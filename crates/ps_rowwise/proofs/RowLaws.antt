@@ -9,7 +9,7 @@ use Rattle.ps_frame.specs.Tables.{Fields, Table}
 use Rattle.ps_frame.specs.Trees.{Tree}
 use Rattle.ps_frame.specs.Typing.{is_elementwise, is_independent}
 use Rattle.ps_frame.specs.declared.value.Value.{Value}
-use Rattle.ps_plan.proofs.Begins.{begins-map}
+use Rattle.ps_meaning.proofs.Begins.{begins-map}
 use Rattle.ps_rowwise.specs.Rows.{AreParts, Begins, GoesByRow, HasKind, IsFront, row_alone}
 use Rattle.ps_rowwise.proofs.ByRow.{cell_for, goes-by}
 use Rattle.ps_rowwise.proofs.Ignoring.{same-column}

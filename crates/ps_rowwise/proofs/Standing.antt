@@ -10,9 +10,9 @@ use Rattle.ps_frame.specs.Eval.{cell_of_row, cellwise}
 use Rattle.ps_frame.specs.Zip.{Extent, aligned, all_same, below, breaks_shape, broadcasts, cell_in_row, ended_lengths, ends_early, extent_of, extents, least_or, lengths_where, open_lengths, outgrows, unseen_causes, zip_causes, zip_length, zip_rows}
 use Rattle.ps_frame.specs.declared.value.Value.{Value}
 use Rattle.ps_frame.specs.declared.value.Value.TheVariants as val
-use Rattle.ps_plan.proofs.Begins.{append-empty_left, map-below}
-use Rattle.ps_plan.proofs.OneInput.{places-all}
-use Rattle.ps_plan.proofs.Under.{causes-nonempty, nonempty}
+use Rattle.ps_meaning.proofs.Begins.{append-empty_left, map-below}
+use Rattle.ps_meaning.proofs.OneInput.{places-all}
+use Rattle.ps_meaning.proofs.Under.{causes-nonempty, nonempty}
 
 -- an operand: whether it has one cell for all rows, its column, and the cell that it gives to a row
 pub record Operand : Type 0 where

@@ -2,7 +2,7 @@
 use Rattle.std.proofs.Common.{◌≡◌, ℕ, zero, suc, ◌+◌, ◌<◌, ◌≤◌, max, List, [], ◌∷◌, ◌++◌, length, map, slice_get, refl, sym, ◌∙◌, ap, subst, arith}
 use Rattle.std.specs.Prelude.{Option, Some, None, Contains, sum_by}
 use Rattle.std.proofs.lemmas.List.Sums.{sum_by-cons}
-use Rattle.pu_index.specs.declared.arena.Node.{Node}
+use Rattle.pu_base.specs.declared.arena.Node.{Node}
 use Rattle.ps_frame.specs.Parts.{tree_depth, trees_depth}
 use Rattle.ps_frame.specs.Trees.{IsExpression, Tree, aggregate_tree, entry_tree, tree_at, tree_size, trees_of, trees_size}
 use Rattle.ps_frame.specs.declared.expr.AExpr.{AExpr}

@@ -3,10 +3,10 @@ use Rattle.std.proofs.Common.{◌≡◌, ℕ, ◌≤◌, length, refl}
 use Rattle.std.specs.Prelude.{Contains}
 use Rattle.ps_frame.specs.declared.refusal.PolarsError.{PolarsError}
 use Rattle.ps_frame.specs.declared.refusal.Why.TheVariants as why
-use Rattle.ps_plan.specs.Errors.{refusal_error}
+use Rattle.ps_meaning.specs.Errors.{refusal_error}
 use Rattle.ps_plan.specs.Graph.{Reached, exprs_at, here, inputs_at, operands_at}
 use Rattle.ps_plan.specs.Plans.{Plan}
-use Rattle.ps_plan.specs.Refusals.{invalid_plan}
+use Rattle.ps_meaning.specs.StepRefusals.{invalid_plan}
 use Rattle.ps_survey.specs.Flaws.{Flaw, IsFlawOrMemory, expr_in_circle, expr_missing, flawed, in_circle, input_missing, root_missing}
 use Rattle.ps_survey.specs.Search.{HasStopped}
 use Rattle.ps_survey.specs.declared.search.Stop.TheVariants as stop

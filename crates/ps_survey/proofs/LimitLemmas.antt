@@ -6,7 +6,8 @@ use Rattle.std.proofs.lemmas.List.Elements.{Contains-push_cases}
 use Rattle.ps_frame.specs.declared.refusal.PolarsError.TheVariants as error
 use Rattle.ps_frame.specs.declared.refusal.Why.TheVariants as why
 use Rattle.ps_plan.specs.Graph.{HasNoCircle, Reached}
-use Rattle.ps_plan.specs.Plans.{Plan, depth, occurrences, tree_of}
+use Rattle.ps_meaning.specs.PlanTrees.{depth, occurrences}
+use Rattle.ps_plan.specs.Plans.{Plan, tree_of}
 use Rattle.ps_plan.specs.declared.ir.IR.{IR}
 use Rattle.ps_survey.specs.Counts.{looks_at}
 use Rattle.ps_survey.specs.Extents.{IsExtent, IsWithinLimits}

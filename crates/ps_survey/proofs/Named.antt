@@ -3,9 +3,9 @@ use Rattle.std.proofs.Common.{◌≡◌, ℕ, zero, suc, ◌-◌, ◌<◌, ◌�
 use Rattle.std.specs.Prelude.{Some, None, option_map}
 use Rattle.std.proofs.lemmas.List.{map-append}
 use Rattle.std.proofs.lemmas.Option.{slice_get_past, slice_get_read}
-use Rattle.pu_index.specs.declared.arena.Node.{Node}
-use Rattle.ps_plan.specs.Steps.{expr_nodes}
-use Rattle.ps_plan.specs.declared.ir.ExprIR.{ExprIR}
+use Rattle.pu_base.specs.declared.arena.Node.{Node}
+use Rattle.ps_plan.specs.Entries.{expr_nodes}
+use Rattle.ps_meaning.specs.declared.options.ExprIR.{ExprIR}
 
 abbrev pub numbers_of : List ExprIR → List ℕ
 numbers_of es = map (λ (n : Node). n.0) (expr_nodes es)

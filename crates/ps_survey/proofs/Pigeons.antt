@@ -2,10 +2,10 @@
 use Rattle.std.proofs.Common.{◌≡◌, ◌≢◌, ◌⊎◌, inl, inr, ℕ, zero, suc, ◌+◌, ◌<◌, ◌≤◌, List, [], ◌∷◌, ◌++◌, length, map, get_or, slice_get, refl, sym, ◌∙◌, ap, subst, length-append, arith}
 use Rattle.std.specs.Prelude.{Some, Contains, sum_by}
 use Rattle.std.proofs.lemmas.List.Sums.{sum_by-cons}
-use Rattle.pu_index.specs.declared.arena.Node.{Node}
+use Rattle.pu_base.specs.declared.arena.Node.{Node}
 use Rattle.ps_frame.specs.declared.expr.AExpr.{AExpr}
 use Rattle.ps_plan.specs.Graph.{named_by, operands}
-use Rattle.ps_plan.specs.Steps.{entry_exprs, entry_inputs}
+use Rattle.ps_plan.specs.Entries.{entry_exprs, entry_inputs}
 use Rattle.ps_plan.specs.declared.ir.IR.{IR}
 use Rattle.ps_survey.specs.Counts.{looks_at, names_in}
 use Rattle.ps_survey.specs.Orders.{all_in, exprs_in, operands_in}

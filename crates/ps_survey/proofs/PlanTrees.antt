@@ -3,16 +3,18 @@ use Rattle.std.proofs.Common.{◌≡◌, ℕ, zero, suc, ◌+◌, ◌<◌, ◌�
 use Rattle.std.specs.Prelude.{Option, Some, None, Contains, sum_by}
 use Rattle.std.proofs.lemmas.List.{map-append}
 use Rattle.std.proofs.lemmas.List.Sums.{sum_by-append, sum_by-cons}
-use Rattle.pu_index.specs.declared.arena.Node.{Node}
+use Rattle.pu_base.specs.declared.arena.Node.{Node}
 use Rattle.ps_frame.specs.Parts.{tree_depth}
 use Rattle.ps_frame.specs.Trees.{Tree, tree_at, tree_size}
 use Rattle.ps_frame.specs.declared.expr.AExpr.{AExpr}
 use Rattle.ps_plan.specs.Graph.{named_by}
-use Rattle.ps_plan.specs.Plans.{IsPlan, PlanTree, PlanTrees, all_sizes, deepest, depth, depth_of_all, node_tree, occurrences, occurrences_of_all, plan_at, plan_trees_of}
-use Rattle.ps_plan.specs.Steps.{entry_exprs, entry_inputs, entry_step, expr_nodes, exprs_of, function_step, key_trees, named_trees, step_exprs}
-use Rattle.ps_plan.specs.declared.ir.ExprIR.{ExprIR}
-use Rattle.ps_plan.specs.declared.ir.FunctionIR.{FunctionIR}
-use Rattle.ps_plan.specs.declared.ir.FunctionIR.TheVariants as call
+use Rattle.ps_meaning.specs.PlanTrees.{PlanTree, PlanTrees, all_sizes, deepest, depth, depth_of_all, occurrences, occurrences_of_all}
+use Rattle.ps_plan.specs.Plans.{IsPlan, node_tree, plan_at, plan_trees_of}
+use Rattle.ps_meaning.specs.Steps.{exprs_of, function_step, key_trees, named_trees, step_exprs}
+use Rattle.ps_plan.specs.Entries.{entry_exprs, entry_inputs, entry_step, expr_nodes}
+use Rattle.ps_meaning.specs.declared.options.ExprIR.{ExprIR}
+use Rattle.ps_meaning.specs.declared.options.FunctionIR.{FunctionIR}
+use Rattle.ps_meaning.specs.declared.options.FunctionIR.TheVariants as call
 use Rattle.ps_plan.specs.declared.ir.IR.{IR}
 use Rattle.ps_plan.specs.declared.ir.IR.TheVariants as entry
 use Rattle.ps_plan.proofs.Unfolding.{IsPlan-in_range, plan_at-is}

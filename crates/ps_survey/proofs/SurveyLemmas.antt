@@ -6,10 +6,12 @@ use Rattle.ps_frame.specs.declared.refusal.PolarsError.TheVariants as error
 use Rattle.ps_frame.specs.declared.refusal.Why.{Why}
 use Rattle.ps_frame.specs.declared.refusal.Why.TheVariants as why
 use Rattle.ps_frame.specs.Functions.{Functions}
-use Rattle.ps_plan.specs.Errors.{refusal_error}
-use Rattle.ps_plan.specs.Refusals.{GraphRefused, IsMisshapen, IsPastLimits, IsRefused, invalid_plan}
+use Rattle.ps_meaning.specs.Errors.{refusal_error}
+use Rattle.ps_meaning.specs.StepRefusals.{invalid_plan}
+use Rattle.ps_plan.specs.Refusals.{GraphRefused, IsMisshapen, IsPastLimits, IsRefused}
 use Rattle.ps_plan.specs.Graph.{HasNoCircle, IsInRange, Reached, here, onward}
-use Rattle.ps_plan.specs.Plans.{Plan, depth, occurrences, tree_of}
+use Rattle.ps_meaning.specs.PlanTrees.{depth, occurrences}
+use Rattle.ps_plan.specs.Plans.{Plan, tree_of}
 use Rattle.ps_survey.specs.Extents.{IsWithinLimits}
 use Rattle.ps_survey.specs.Flaws.{Flaw, IsFlaw, IsFlawOrMemory, flawed, memory, root_missing, input_missing, expr_missing, in_circle, expr_in_circle, too_deep, too_large}
 use Rattle.ps_survey.specs.Orders.{IsExprOrder, IsNodeOrder}

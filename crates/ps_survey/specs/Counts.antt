@@ -1,9 +1,9 @@
 -- How much there is to look at in an arena.
 use Rattle.std.specs.Prelude.{ℕ, ◌+◌, suc, List, length, sum_by}
-use Rattle.pu_index.specs.declared.arena.Node.{Node}
+use Rattle.pu_base.specs.declared.arena.Node.{Node}
 use Rattle.ps_frame.specs.declared.expr.AExpr.{AExpr}
 use Rattle.ps_plan.specs.Graph.{operands}
-use Rattle.ps_plan.specs.Steps.{entry_exprs, entry_inputs}
+use Rattle.ps_plan.specs.Entries.{entry_exprs, entry_inputs}
 use Rattle.ps_plan.specs.declared.ir.IR.{IR}
 
 -- how many numbers the entries name

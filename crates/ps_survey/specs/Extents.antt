@@ -3,7 +3,8 @@ use Rattle.std.specs.Prelude.{◌≡◌, ℕ, ◌≤◌, max, min, List, [], ◌
 use Rattle.ps_frame.specs.Parts.{tree_depth}
 use Rattle.ps_frame.specs.Trees.{tree_at, tree_size}
 use Rattle.ps_frame.specs.declared.expr.AExpr.{AExpr}
-use Rattle.ps_plan.specs.Plans.{depth, occurrences, plan_at}
+use Rattle.ps_meaning.specs.PlanTrees.{depth, occurrences}
+use Rattle.ps_plan.specs.Plans.{plan_at}
 use Rattle.ps_plan.specs.declared.ir.IR.{IR}
 use Rattle.ps_survey.specs.declared.extents.Extent.{Extent}
 

@@ -1,15 +1,16 @@
 -- The flaws of a plan that its two arenas decide.
 use Rattle.std.specs.Prelude.{◌≡◌, ℕ, ◌<◌, ◌≤◌, List, length, Contains}
-use Rattle.pu_index.specs.declared.arena.Node.{Node}
+use Rattle.pu_base.specs.declared.arena.Node.{Node}
 use Rattle.ps_frame.specs.declared.expr.AExpr.{AExpr}
 use Rattle.ps_frame.specs.declared.refusal.PolarsError.{PolarsError}
 use Rattle.ps_frame.specs.declared.refusal.PolarsError.TheVariants as error
 use Rattle.ps_frame.specs.declared.refusal.Why.{Why}
 use Rattle.ps_frame.specs.declared.refusal.Why.TheVariants as why
-use Rattle.ps_plan.specs.Errors.{refusal_error}
+use Rattle.ps_meaning.specs.Errors.{refusal_error}
 use Rattle.ps_plan.specs.Graph.{ExprReachesItself, HasNoCircle, Names, ReachesItself, Reached, inputs_at}
-use Rattle.ps_plan.specs.Plans.{Plan, depth, occurrences, tree_of}
-use Rattle.ps_plan.specs.Refusals.{invalid_plan}
+use Rattle.ps_meaning.specs.PlanTrees.{depth, occurrences}
+use Rattle.ps_plan.specs.Plans.{Plan, tree_of}
+use Rattle.ps_meaning.specs.StepRefusals.{invalid_plan}
 use Rattle.ps_plan.specs.declared.ir.IR.{IR}
 
 -- the plan of a root and two arenas

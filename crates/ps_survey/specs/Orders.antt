@@ -3,7 +3,7 @@ use Rattle.std.specs.Prelude.{ℕ, ◌<◌, ◌⊎◌, ◌++◌, List, length, s
 use Rattle.ps_frame.specs.declared.expr.AExpr.{AExpr}
 use Rattle.ps_plan.specs.Graph.{Names, Path, exprs_at, inputs_at, named_by, operands, operands_at}
 use Rattle.ps_plan.specs.Plans.{Plan}
-use Rattle.ps_plan.specs.Steps.{entry_exprs, entry_inputs}
+use Rattle.ps_plan.specs.Entries.{entry_exprs, entry_inputs}
 use Rattle.ps_plan.specs.declared.ir.IR.{IR}
 use Rattle.ps_survey.specs.Search.{AtRest, IsOrderFrom, NamedFirst, Once}
 use Rattle.ps_survey.specs.declared.search.Mark.{Mark}

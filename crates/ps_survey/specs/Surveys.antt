@@ -1,7 +1,8 @@
 -- What a survey of a plan knows.
 use Rattle.std.specs.Prelude.{ℕ, List, Contains}
 use Rattle.ps_plan.specs.Graph.{HasNoCircle, IsInRange, Reached, inputs_at}
-use Rattle.ps_plan.specs.Plans.{IsPlan, Plan, depth, occurrences, tree_of}
+use Rattle.ps_meaning.specs.PlanTrees.{depth, occurrences}
+use Rattle.ps_plan.specs.Plans.{IsPlan, Plan, tree_of}
 use Rattle.ps_survey.specs.Extents.{IsWithinLimits}
 use Rattle.ps_survey.specs.Search.{NamedFirst, Once}
 

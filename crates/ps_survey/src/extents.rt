@@ -11,8 +11,7 @@ use crate::names::Operands;
 use crate::search::Names;
 use ps_frame::expr::AExpr;
 use ps_frame::refusal::{PolarsError, PolarsResult};
-use pu_index::Arena;
-use pu_order::Steps;
+use pu_base::{Arena, Steps};
 use std::alloc::Global;
 use std::sync::ledger::Ledger;
 

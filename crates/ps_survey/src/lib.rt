@@ -7,7 +7,5 @@ mod names;
 mod orders;
 mod search;
 pub mod survey;
-#[cfg(test)]
-mod tests;
 
 pub use survey::{Survey, flaws_are_refused, survey_plan};

@@ -1,6 +1,6 @@
 //! The nodes of a plan against the limits on their depth and their size.
 ghost use Rattle.std.specs.Prelude.{◌≡◌, ◌+◌, ◌<◌, ◌≤◌, ◌⊎◌, suc, max, ℕ, length, sum_by, Contains, IfOk, IfErr};
-ghost use Rattle.pu_index.specs.declared.arena.Node.{Node};
+ghost use Rattle.pu_base.specs.declared.arena.Node.{Node};
 ghost use Rattle.ps_plan.specs.Graph.{HasNoCircle, Reached};
 ghost use Rattle.ps_plan.specs.Plans.{IsPlan};
 ghost use Rattle.ps_survey.specs.Counts.{looks_at};
@@ -14,8 +14,7 @@ use crate::names::{Exprs, Inputs};
 use ps_frame::expr::AExpr;
 use ps_frame::refusal::{PolarsError, PolarsResult, Why};
 use ps_plan::ir::IR;
-use pu_index::{Arena, Node};
-use pu_order::Steps;
+use pu_base::{Arena, Node, Steps};
 use std::alloc::Global;
 use std::sync::ledger::Ledger;
 
@@ -54,6 +53,7 @@ pub fn check_limits<L: Ledger>(
     ensures flaw { (root : Node) → ((n : ℕ) → Contains order.now n → Reached (plan_of root nodes.now.items exprs.now.items) n) → ((n : ℕ) → Contains order.now n → HasNoCircle (plan_of root nodes.now.items exprs.now.items) n) → IfErr result (IsFlawOrMemory (plan_of root nodes.now.items exprs.now.items)) }
     ensures steps { steps.new ≤ steps.old + looks_at (all_in nodes.now.items) order.now }
 {
+    // The clauses alone read the expressions.
     let _exprs = exprs;
     let mut table = match vec![in alloc; Extent::none(); nodes.len()] {
         Ok(table) => table,

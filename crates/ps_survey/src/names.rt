@@ -1,14 +1,15 @@
 //! What the entries of a plan's arenas name.
 ghost use Rattle.std.specs.Prelude.{◌≡◌, ◌+◌, ◌^◌, ◌<◌, ◌∷◌, ◌++◌, [], length, map, slice_get, Some, IfSome};
-ghost use Rattle.pu_index.specs.declared.arena.Node.{Node};
-ghost use Rattle.ps_plan.specs.declared.ir.ExprIR.{ExprIR};
+ghost use Rattle.pu_base.specs.declared.arena.Node.{Node};
+ghost use Rattle.ps_meaning.specs.declared.options.ExprIR.{ExprIR};
 ghost use Rattle.ps_plan.specs.Graph.{aggregate_operand, operands};
-ghost use Rattle.ps_plan.specs.Steps.{entry_exprs, entry_inputs, expr_nodes};
+ghost use Rattle.ps_plan.specs.Entries.{entry_exprs, entry_inputs, expr_nodes};
 
 use crate::search::Names;
 use ps_frame::expr::{AExpr, IRAggExpr};
-use ps_plan::ir::{ExprIR, IR};
-use pu_index::{Arena, Node};
+use ps_meaning::options::ExprIR;
+use ps_plan::ir::IR;
+use pu_base::{Arena, Node};
 
 /// The expressions of an arena, each of which names its operands.
 #[derive(Clone, Copy)]
@@ -48,7 +49,7 @@ impl Names for Operands<'_> {
 impl Names for Inputs<'_> {
     ghost use Rattle.std.specs.Prelude.{length, slice_get};
     ghost use Rattle.ps_plan.specs.Graph.{named_by};
-    ghost use Rattle.ps_plan.specs.Steps.{entry_inputs};
+    ghost use Rattle.ps_plan.specs.Entries.{entry_inputs};
 
     ghost named = { λ s n. named_by entry_inputs (slice_get s.nodes.now.items n) };
 
@@ -66,7 +67,7 @@ impl Names for Inputs<'_> {
 impl Names for Exprs<'_> {
     ghost use Rattle.std.specs.Prelude.{length, slice_get};
     ghost use Rattle.ps_plan.specs.Graph.{named_by};
-    ghost use Rattle.ps_plan.specs.Steps.{entry_exprs};
+    ghost use Rattle.ps_plan.specs.Entries.{entry_exprs};
 
     ghost named = { λ s n. named_by entry_exprs (slice_get s.nodes.now.items n) };
 
@@ -171,26 +172,7 @@ fn input(entry: &IR, place: usize) -> Option<usize>
     ensures name { result ≡ slice_get (map (λ (n : Node). n.0) (entry_inputs entry.now)) place }
     ensures bounded { IfSome result (λ _. place + 1 < 2 ^ 64) }
 {
-    match entry {
-        IR::DataFrameScan { .. } | IR::LeftOut(_) => None,
-        IR::SimpleProjection { input, .. }
-        | IR::Select { input, .. }
-        | IR::HStack { input, .. }
-        | IR::Filter { input, .. }
-        | IR::Slice { input, .. }
-        | IR::Sink { input, .. }
-        | IR::MapFunction { input, .. }
-        | IR::Sort { input, .. }
-        | IR::Cache { input, .. }
-        | IR::GroupBy { input, .. }
-        | IR::Distinct { input, .. } => among(&[*input], place),
-        IR::Union { inputs, .. } | IR::HConcat { inputs } => among(inputs.as_slice(), place),
-        IR::Join {
-            input_left,
-            input_right,
-            ..
-        } => among(&[*input_left, *input_right], place),
-    }
+    entry.inputs().get(place).map(|node| node.0)
 }
 
 /// The expression that a node names at a place.

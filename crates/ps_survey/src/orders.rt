@@ -3,12 +3,12 @@ ghost use Rattle.std.specs.Prelude.{◌≡◌, ◌+◌, ◌*◌, ◌<◌, ◌≤
 ghost use Rattle.ps_frame.specs.declared.expr.AExpr.{AExpr};
 ghost use Rattle.ps_plan.specs.Graph.{Reached, exprs_at, inputs_at, operands, operands_at};
 ghost use Rattle.ps_plan.specs.declared.ir.IR.{IR};
-ghost use Rattle.pu_index.specs.declared.arena.Node.{Node};
-ghost use Rattle.ps_plan.specs.Steps.{entry_exprs, entry_inputs};
+ghost use Rattle.pu_base.specs.declared.arena.Node.{Node};
+ghost use Rattle.ps_plan.specs.Entries.{entry_exprs, entry_inputs};
 ghost use Rattle.ps_frame.specs.declared.refusal.Why.TheVariants as why;
-ghost use Rattle.ps_plan.specs.Errors.{refusal_error};
+ghost use Rattle.ps_meaning.specs.Errors.{refusal_error};
 ghost use Rattle.ps_plan.specs.Plans.{Plan};
-ghost use Rattle.ps_plan.specs.Refusals.{invalid_plan};
+ghost use Rattle.ps_meaning.specs.StepRefusals.{invalid_plan};
 ghost use Rattle.ps_survey.specs.Counts.{looks_at, names_in};
 ghost use Rattle.ps_survey.specs.Flaws.{IsFlaw, IsFlawOrMemory, plan_of};
 ghost use Rattle.ps_survey.specs.Orders.{HasVisited, IsExprOrder, IsNodeOrder, exprs_in, operands_in};
@@ -19,8 +19,7 @@ use crate::search::{Names, Search, Stop, order_from};
 use ps_frame::expr::AExpr;
 use ps_frame::refusal::{PolarsError, PolarsResult, Why};
 use ps_plan::ir::IR;
-use pu_index::{Arena, Node};
-use pu_order::Steps;
+use pu_base::{Arena, Node, Steps};
 use std::alloc::Global;
 use std::sync::ledger::Ledger;
 
@@ -123,6 +122,7 @@ fn visit_exprs<L: Ledger>(
     let mut place = 0;
     while let Some(expr) = own.name(node, place) {
         steps.tick();
+        // A match and no `?`: so the clause of the error is handed on as it stands.
         match visit_expr(search, node, expr, exprs, steps) {
             Ok(()) => place += 1,
             Err(error) => return Err(error),
@@ -149,6 +149,7 @@ pub fn order_exprs<L: Ledger>(
     };
     for node in order {
         steps.tick();
+        // A match and no `?`: so the clause of the error is handed on as it stands.
         match visit_exprs(&mut search, *node, nodes, exprs, steps) {
             Ok(()) => {}
             Err(error) => return Err(error),

@@ -4,7 +4,7 @@ ghost use Rattle.ps_survey.specs.Search.{AtRest, Ended, HasStopped, IsMarked, Is
 ghost use Rattle.ps_survey.specs.declared.search.Mark.TheVariants as mark;
 ghost use Rattle.ps_survey.specs.declared.search.Stop.TheVariants as stop;
 
-use pu_order::Steps;
+use pu_base::Steps;
 use std::alloc::{AllocError, AllocFailed, Global};
 use std::sync::ledger::Ledger;
 
@@ -171,6 +171,7 @@ impl Search {
         let mut at = start;
         loop {
             steps.tick();
+            // A match and no `?`: so the clause of the stop is handed on as it stands.
             match self.look(names, at) {
                 Ok(Some(number)) => at = number,
                 Ok(None) => return Ok(()),
@@ -217,6 +218,7 @@ pub fn order_from<N: Names, L: Ledger>(
     ensures found { MatchResult result (λ order. IsOrderFrom (N.named names.now) (N.count names.now) start order.items) (HasStopped (N.named names.now) (N.count names.now) start) }
     ensures steps { steps.new ≤ steps.old + looks_left (N.named names.now) 0 (replicate (N.count names.now) mark.New) }
 {
+    // Matches and no `?`, here and below: so the clause of each stop is handed on as it stands.
     let mut search = match Search::new(alloc, names.len()) {
         Ok(search) => search,
         Err(stop) => return Err(stop),

@@ -3,10 +3,12 @@ ghost use Rattle.std.specs.Prelude.{◌≡◌, ◌↔◌, ◌+◌, ◌*◌, ◌�
 ghost use Rattle.ps_frame.specs.Functions.{Functions};
 ghost use Rattle.ps_frame.specs.declared.refusal.PolarsError.TheVariants as refusal;
 ghost use Rattle.ps_frame.specs.declared.refusal.Why.{Why};
-ghost use Rattle.ps_plan.specs.Errors.{refusal_error};
+ghost use Rattle.ps_meaning.specs.Errors.{refusal_error};
 ghost use Rattle.ps_plan.specs.Graph.{HasNoCircle, IsInRange, Reached};
-ghost use Rattle.ps_plan.specs.Plans.{IsPlan, Plan, depth, occurrences, tree_of};
-ghost use Rattle.ps_plan.specs.Refusals.{IsRefused, invalid_plan};
+ghost use Rattle.ps_meaning.specs.PlanTrees.{depth, occurrences};
+ghost use Rattle.ps_plan.specs.Plans.{IsPlan, Plan, tree_of};
+ghost use Rattle.ps_meaning.specs.StepRefusals.{invalid_plan};
+ghost use Rattle.ps_plan.specs.Refusals.{IsRefused};
 ghost use Rattle.ps_survey.specs.Counts.{all_names};
 ghost use Rattle.ps_survey.specs.Flaws.{Flaw, IsFlawOrMemory, plan_of};
 ghost use Rattle.ps_survey.specs.Orders.{inputs_in};
@@ -19,8 +21,7 @@ use crate::orders::{order_exprs, order_nodes};
 use ps_frame::expr::AExpr;
 use ps_frame::refusal::PolarsResult;
 use ps_plan::ir::IR;
-use pu_index::{Arena, Node};
-use pu_order::Steps;
+use pu_base::{Arena, Node, Steps};
 use std::alloc::Global;
 use std::marker::Model;
 use std::sync::ledger::Ledger;
@@ -59,6 +60,7 @@ fn survey_order<L: Ledger>(
     ensures survey { MatchResult result (λ order. IsSurvey (plan_of root ir.now.items exprs.now.items) order.items) (IsFlawOrMemory (plan_of root ir.now.items exprs.now.items)) }
     ensures steps { steps.new ≤ steps.old + 4 * (length ir.now.items + length exprs.now.items + all_names ir.now.items exprs.now.items) }
 {
+    // Matches and no `?`, here and below: so the clause of each error is handed on as it stands.
     let order = match order_nodes(alloc, root, ir, steps) {
         Ok(order) => order,
         Err(error) => return Err(error),
@@ -100,6 +102,7 @@ pub fn survey_plan<L: Ledger>(
     ensures refused { IfErr result (λ e. (e ≡ refusal.OutOfMemory) ⊎ ((n : ℕ) × (w : Why) × (e ≡ refusal_error n (invalid_plan w)) × ((F : Functions) → IsRefused F (plan_of root ir.now.items exprs.now.items) n (invalid_plan w)))) }
     ensures steps { steps.new ≤ steps.old + 4 * (length ir.now.items + length exprs.now.items + all_names ir.now.items exprs.now.items) }
 {
+    // A match and no `?`: so the clause of the error is handed on as it stands.
     match survey_order(alloc, root, ir, exprs, steps) {
         Ok(order) => Ok(Survey { order }),
         Err(error) => Err(error),

@@ -11,11 +11,11 @@ use Rattle.ps_frame.specs.declared.refusal.Compute.TheVariants as compute
 use Rattle.ps_frame.specs.declared.refusal.PolarsError.TheVariants as error
 use Rattle.ps_frame.specs.declared.value.DataFault.TheVariants as fault
 use Rattle.ps_frame.specs.declared.value.Value.{Value}
-use Rattle.ps_plan.specs.Cases.{answer_or_fault, if_whole, stream_table, streamed, user_table}
-use Rattle.ps_plan.specs.Nodes.{GivesFrame, MayFault}
-use Rattle.ps_plan.specs.Steps.{user}
-use Rattle.ps_plan.proofs.ReachedSteps.{contains-first}
-use Rattle.ps_plan.proofs.StepWithin.{answered}
+use Rattle.ps_meaning.specs.Cases.{answer_or_fault, if_whole, stream_table, streamed, user_table}
+use Rattle.ps_meaning.specs.Nodes.{GivesFrame, MayFault}
+use Rattle.ps_meaning.specs.Steps.{user}
+use Rattle.ps_meaning.proofs.Containing.{contains-first}
+use Rattle.ps_meaning.proofs.StepWithin.{answered}
 use Rattle.ps_tables.proofs.Cuts.{table}
 
 abbrev function_fault : ℕ → Cause

@@ -5,7 +5,7 @@ use Rattle.std.proofs.lemmas.List.{drop-take}
 use Rattle.ps_frame.specs.Causes.{Cause}
 use Rattle.ps_frame.specs.Tables.{Fields, Frame, Table, whole}
 use Rattle.ps_frame.specs.declared.value.Value.{Value}
-use Rattle.ps_plan.specs.Cases.{cut_table, end_of}
+use Rattle.ps_meaning.specs.Cases.{cut_table, end_of}
 
 abbrev pub table : Fields → List (List Value) → List Cause → Table
 table s rows broken = record { schema = s; rows = rows; broken = broken }

@@ -12,19 +12,19 @@ use Rattle.ps_frame.specs.Causes.{Column, value, cell_values, is_empty, is_ended
 use Rattle.ps_frame.specs.Frames.{AllOfHeight, HasKinds, IsFrame, column_values, kinds_of}
 use Rattle.ps_frame.specs.Functions.{Functions}
 use Rattle.ps_frame.specs.Tables.{Fields, Frame, beside, columns_of, rows_of, values_at, whole}
-use Rattle.ps_frame.specs.Typed.{Typed}
+use Rattle.ps_frame.specs.Series.{Series}
 use Rattle.ps_frame.specs.Zip.{Extent, aligned, below, cell_in_row, ended_lengths, extents, greatest, is_faulty_row, least_or, row_causes, rows_before_fault, zip_causes, zip_length, zip_rows, zipped}
 use Rattle.ps_frame.specs.declared.value.DataType.TheVariants as kind
 use Rattle.ps_frame.specs.declared.value.Value.{Value}
 use Rattle.ps_frame.specs.declared.value.Value.TheVariants as val
 use Rattle.ps_frame.proofs.Rows.{columns_of-frame, values_at-rows_of}
-use Rattle.ps_plan.specs.Cases.{all_columns, schemas_of}
-use Rattle.ps_plan.specs.Nodes.{GivesFrame, wholes}
-use Rattle.ps_plan.specs.Schemas.{joined_schemas}
-use Rattle.ps_plan.specs.Steps.{hconcat}
-use Rattle.ps_plan.proofs.Begins.{map-below}
-use Rattle.ps_plan.proofs.Fits.{all-append}
-use Rattle.ps_plan.proofs.OneInput.{places-all}
+use Rattle.ps_meaning.specs.Cases.{all_columns, schemas_of}
+use Rattle.ps_meaning.specs.Nodes.{GivesFrame, wholes}
+use Rattle.ps_meaning.specs.Schemas.{joined_schemas}
+use Rattle.ps_meaning.specs.Steps.{hconcat}
+use Rattle.ps_meaning.proofs.Begins.{map-below}
+use Rattle.ps_meaning.proofs.Fits.{all-append}
+use Rattle.ps_meaning.proofs.OneInput.{places-all}
 use Rattle.ps_tables.specs.Columns.{all_values, filled, filled_to}
 use Rattle.ps_tables.proofs.Cuts.{table}
 use Rattle.ps_tables.proofs.Projected.{columns_at}
@@ -133,7 +133,7 @@ rows-filled h [] few = let none : List Value = [] in ap (λ n. replicate n none)
 rows-filled h (vs ∷ vss) few =
     (λ j. beside (filled-are h vs few.0 j) (rows-filled h vss few.1 j)) ∙ beside-map (λ i. get_or vs i val.Null) (row_at vss) (below h)
 
-filled-heights : (h : ℕ) (vss : List (List Value)) (cs : List Typed) → column_values cs ≡ map (filled h) vss → AllByRecursion (λ (vs : List Value). length vs ≤ h) vss → AllOfHeight h cs
+filled-heights : (h : ℕ) (vss : List (List Value)) (cs : List Series) → column_values cs ≡ map (filled h) vss → AllByRecursion (λ (vs : List Value). length vs ≤ h) vss → AllOfHeight h cs
 filled-heights h vss [] e few = tt
 filled-heights h [] (c ∷ cs) e few = cc
 filled-heights h (vs ∷ vss) (c ∷ cs) e few =
@@ -211,24 +211,24 @@ joined-append : (ss : List Fields) (s : Fields) → joined_schemas (ss ++ s ∷ 
 joined-append [] s = append-nil s
 joined-append (r ∷ ss) s = ap (λ fs. r ++ fs) (joined-append ss s) ∙ sym (append_assoc r (joined_schemas ss) s)
 
-filled-kinds : (h : ℕ) (cs : List Typed) → map (λ (c : Typed). c.kind) (map (filled_to h) cs) ≡ map (λ (c : Typed). c.kind) cs
+filled-kinds : (h : ℕ) (cs : List Series) → map (λ (c : Series). c.kind) (map (filled_to h) cs) ≡ map (λ (c : Series). c.kind) cs
 filled-kinds h [] = refl
 filled-kinds h (c ∷ cs) = ap (λ ks. c.kind ∷ ks) (filled-kinds h cs)
 
-filled-values : (h : ℕ) (cs : List Typed) → column_values (map (filled_to h) cs) ≡ map (filled h) (column_values cs)
+filled-values : (h : ℕ) (cs : List Series) → column_values (map (filled_to h) cs) ≡ map (filled h) (column_values cs)
 filled-values h [] = refl
 filled-values h (c ∷ cs) = ap (λ vss. filled h c.values ∷ vss) (filled-values h cs)
 
-columns-are : (t : Frame) (cs : List Typed) → IsFrame t.schema cs (length t.rows) → t.rows ≡ rows_of (length t.rows) (column_values cs) → column_values cs ≡ columns_at t.rows (below (length t.schema))
+columns-are : (t : Frame) (cs : List Series) → IsFrame t.schema cs (length t.rows) → t.rows ≡ rows_of (length t.rows) (column_values cs) → column_values cs ≡ columns_at t.rows (below (length t.schema))
 columns-are t cs fields rows =
-    let d : Typed = record { kind = kind.Boolean; values = [] } in
-    let width : length (column_values cs) ≡ length t.schema = length-map cs (λ (c : Typed). c.values) ∙ columns_of-frame fields in
+    let d : Series = record { kind = kind.Boolean; values = [] } in
+    let width : length (column_values cs) ≡ length t.schema = length-map cs (λ (c : Series). c.values) ∙ columns_of-frame fields in
     sym (places-all (column_values cs) []) ∙ ap (λ n. map (λ k. get_or (column_values cs) k []) (below n)) width
     ∙ map-below (length t.schema) (λ k. get_or (column_values cs) k []) (λ k. values_at k t.rows) (λ k h.
     let inside : k < length cs = (let e = columns_of-frame fields in omega arith) in
-    get_or-map (λ (c : Typed). c.values) cs k d [] inside ∙ sym (values_at-rows_of (length t.rows) k cs d fields.heights inside) ∙ ap (values_at k) (sym rows))
+    get_or-map (λ (c : Series). c.values) cs k d [] inside ∙ sym (values_at-rows_of (length t.rows) k cs d fields.heights inside) ∙ ap (values_at k) (sym rows))
 
-module _ (h : ℕ) (fs : List Frame) (i : ℕ) (t : Frame) (cs old new : List Typed) (p : i < length fs) (is : t ≡ get_or fs i t) (fields : IsFrame t.schema cs (length t.rows)) (rows : t.rows ≡ rows_of (length t.rows) (column_values cs)) (grown : new ≡ old ++ map (filled_to h) cs) where
+module _ (h : ℕ) (fs : List Frame) (i : ℕ) (t : Frame) (cs old new : List Series) (p : i < length fs) (is : t ≡ get_or fs i t) (fields : IsFrame t.schema cs (length t.rows)) (rows : t.rows ≡ rows_of (length t.rows) (column_values cs)) (grown : new ≡ old ++ map (filled_to h) cs) where
   more : take (suc i) fs ≡ take i fs ++ t ∷ []
   more = take-suc fs i t p ∙ ap (λ g. take i fs ++ g ∷ []) (sym is)
 
@@ -237,14 +237,14 @@ module _ (h : ℕ) (fs : List Frame) (i : ℕ) (t : Frame) (cs old new : List Ty
       let ss = map (λ (f : Frame). f.schema) (take i fs) in
       let schema : joined_schemas (map (λ (f : Frame). f.schema) (take (suc i) fs)) ≡ joined_schemas ss ++ t.schema =
       ap (λ gs. joined_schemas (map (λ (f : Frame). f.schema) gs)) more ∙ ap joined_schemas (map-append (λ (f : Frame). f.schema) (take i fs) (t ∷ [])) ∙ joined-append ss t.schema in
-      rw add-one (ap (map (λ (c : Typed). c.kind)) grown ∙ map-append (λ (c : Typed). c.kind) old (map (filled_to h) cs) ∙ (λ j. before j ++ (filled-kinds h cs ∙ fields.kinds) j)
+      rw add-one (ap (map (λ (c : Series). c.kind)) grown ∙ map-append (λ (c : Series). c.kind) old (map (filled_to h) cs) ∙ (λ j. before j ++ (filled-kinds h cs ∙ fields.kinds) j)
       ∙ sym (map-append (λ field. field.1) (joined_schemas ss) t.schema) ∙ ap kinds_of (sym schema))
 
   pub values-beside : column_values old ≡ map (filled h) (all_values (take i fs)) → column_values new ≡ map (filled h) (all_values (take (i + 1) fs))
   values-beside before =
       let vss = columns_at t.rows (below (length t.schema)) in
       let all : all_values (take (suc i) fs) ≡ all_values (take i fs) ++ vss = ap all_values more ∙ all_values-append (take i fs) (t ∷ []) ∙ ap (λ ws. all_values (take i fs) ++ ws) (append-nil vss) in
-      rw add-one (ap column_values grown ∙ map-append (λ (c : Typed). c.values) old (map (filled_to h) cs) ∙ (λ j. before j ++ (filled-values h cs ∙ ap (map (filled h)) (columns-are t cs fields rows)) j)
+      rw add-one (ap column_values grown ∙ map-append (λ (c : Series). c.values) old (map (filled_to h) cs) ∙ (λ j. before j ++ (filled-values h cs ∙ ap (map (filled h)) (columns-are t cs fields rows)) j)
       ∙ sym (map-append (filled h) (all_values (take i fs)) vss) ∙ ap (map (filled h)) (sym all))
 
 -- The tables side by side.
@@ -252,7 +252,7 @@ schemas-are : (fs : List Frame) → schemas_of (wholes fs) ≡ map (λ (f : Fram
 schemas-are [] = refl
 schemas-are (f ∷ fs) = ap (λ ss. f.schema ∷ ss) (schemas-are fs)
 
-module _ (fs : List Frame) (s : Fields) (cs : List Typed) (h : ℕ) (columns : AllByRecursion (λ (f : Frame). f.schema ≢ []) fs) (joined : s ≡ joined_schemas (map (λ (f : Frame). f.schema) fs)) (greatest : h ≡ height_among 0 fs) (values : column_values cs ≡ map (filled h) (all_values fs)) where
+module _ (fs : List Frame) (s : Fields) (cs : List Series) (h : ℕ) (columns : AllByRecursion (λ (f : Frame). f.schema ≢ []) fs) (joined : s ≡ joined_schemas (map (λ (f : Frame). f.schema) fs)) (greatest : h ≡ height_among 0 fs) (values : column_values cs ≡ map (filled h) (all_values fs)) where
   low : AllByRecursion (λ (vs : List Value). length vs ≤ h) (all_values fs)
   low = values-low h fs (each-low h 0 fs (omega arith))
 

@@ -6,11 +6,11 @@ use Rattle.std.proofs.lemmas.List.{map-append}
 use Rattle.std.proofs.lemmas.Option.{same_Some}
 use Rattle.ps_frame.specs.Frames.{HasKinds, kinds_of}
 use Rattle.ps_frame.specs.Tables.{Fields, field_index, field_kind}
-use Rattle.ps_frame.specs.Typed.{Typed}
+use Rattle.ps_frame.specs.Series.{Series}
 use Rattle.ps_frame.specs.declared.value.DataType.{DataType}
-use Rattle.ps_plan.specs.Schemas.{both as both_of, named_fields}
-use Rattle.ps_plan.specs.Steps.{Name}
-use Rattle.ps_plan.proofs.EvalFits.{first-place, next-place, stands}
+use Rattle.ps_meaning.specs.Schemas.{both as both_of, named_fields}
+use Rattle.ps_meaning.specs.Steps.{Name}
+use Rattle.ps_meaning.proofs.EvalFits.{first-place, next-place, stands}
 
 some-kind : (o : Option DataType) → IsSome o → (k : DataType) × (o ≡ Some k)
 some-kind None h = cc
@@ -72,8 +72,8 @@ kinds-more (m ∷ ns) s out i n k e h is q = by i is h (field_kind m s) (named_f
         let all : (m, j) ∷ fs ≡ out = same_Some ((m, j) ∷ fs) out e in
         subst (λ out. kinds_of (take (suc (suc i)) out) ≡ kinds_of (take (suc i) out) ++ k ∷ []) all (ap (λ ks. j ∷ ks) (rest fs i n k g (omega arith) is q))
 
-pub kinds-step : (ns : List Name) (s out : Fields) (i : ℕ) (n : Name) (c : Typed) (cs new : List Typed) → named_fields ns s ≡ Some out → i < length ns → n ≡ get_or ns i n → field_kind n s ≡ Some c.kind → HasKinds (take i out) cs → new ≡ cs ++ c ∷ [] → HasKinds (take (i + 1) out) new
-kinds-step ns s out i n c cs new e h is q kinds grown = rw add-one (ap (map (λ (c : Typed). c.kind)) grown ∙ map-append (λ (c : Typed). c.kind) cs (c ∷ []) ∙ ap (λ ks. ks ++ c.kind ∷ []) kinds ∙ sym (kinds-more ns s out i n c.kind e h is q))
+pub kinds-step : (ns : List Name) (s out : Fields) (i : ℕ) (n : Name) (c : Series) (cs new : List Series) → named_fields ns s ≡ Some out → i < length ns → n ≡ get_or ns i n → field_kind n s ≡ Some c.kind → HasKinds (take i out) cs → new ≡ cs ++ c ∷ [] → HasKinds (take (i + 1) out) new
+kinds-step ns s out i n c cs new e h is q kinds grown = rw add-one (ap (map (λ (c : Series). c.kind)) grown ∙ map-append (λ (c : Series). c.kind) cs (c ∷ []) ∙ ap (λ ks. ks ++ c.kind ∷ []) kinds ∙ sym (kinds-more ns s out i n c.kind e h is q))
 
 -- as many fields as names
 pub named-length : (ns : List Name) (s out : Fields) → named_fields ns s ≡ Some out → length out ≡ length ns

@@ -8,17 +8,17 @@ use Rattle.ps_frame.specs.Causes.{Cause}
 use Rattle.ps_frame.specs.Frames.{AllOfHeight, IsFrame, column_values}
 use Rattle.ps_frame.specs.Functions.{Functions}
 use Rattle.ps_frame.specs.Tables.{Fields, Frame, beside, rows_of, whole}
-use Rattle.ps_frame.specs.Typed.{Typed, all_fit}
+use Rattle.ps_frame.specs.Series.{Series, all_fit}
 use Rattle.ps_frame.specs.declared.refusal.Bound.TheVariants as bound
 use Rattle.ps_frame.specs.declared.refusal.PolarsError.TheVariants as error
 use Rattle.ps_frame.specs.declared.value.DataFault.TheVariants as fault
 use Rattle.ps_frame.specs.declared.value.DataType.TheVariants as kind
 use Rattle.ps_frame.specs.declared.value.Value.{Value}
 use Rattle.ps_frame.specs.declared.value.Value.TheVariants as val
-use Rattle.ps_plan.specs.Cases.{numbered, with_row_index}
-use Rattle.ps_plan.specs.Nodes.{GivesFrame, MayFault}
-use Rattle.ps_plan.specs.Steps.{Name, row_index}
-use Rattle.ps_plan.proofs.ReachedSteps.{contains-first}
+use Rattle.ps_meaning.specs.Cases.{numbered, with_row_index}
+use Rattle.ps_meaning.specs.Nodes.{GivesFrame, MayFault}
+use Rattle.ps_meaning.specs.Steps.{Name, row_index}
+use Rattle.ps_meaning.proofs.Containing.{contains-first}
 use Rattle.ps_tables.specs.Numbers.{numbers_from}
 use Rattle.ps_tables.proofs.Cuts.{table}
 
@@ -40,7 +40,7 @@ abbrev no_number : ℕ → Cause
 no_number at = record { fault = fault.RowIndex; node = at }
 
 -- The columns of a table behind its numbers.
-module _ (t : Frame) (cs all : List Typed) (s : Fields) (name : Name) (c : Typed) (o : Option ℕ) (h : ℕ) (high : h ≡ length t.rows) (fields : IsFrame t.schema cs (length t.rows)) (schema : s ≡ (name, kind.IdxSize) ∷ t.schema) (kinds : c.kind ≡ kind.IdxSize) (values : c.values ≡ numbers_from (unwrap_or o 0) h) (all-are : all ≡ c ∷ cs) where
+module _ (t : Frame) (cs all : List Series) (s : Fields) (name : Name) (c : Series) (o : Option ℕ) (h : ℕ) (high : h ≡ length t.rows) (fields : IsFrame t.schema cs (length t.rows)) (schema : s ≡ (name, kind.IdxSize) ∷ t.schema) (kinds : c.kind ≡ kind.IdxSize) (values : c.values ≡ numbers_from (unwrap_or o 0) h) (all-are : all ≡ c ∷ cs) where
   pub index-frame : IsFrame s all h
   index-frame = subst (λ all. IsFrame s all h) (sym all-are) (record {
     kinds = (λ i. kinds i ∷ fields.kinds i) ∙ sym (ap (map (λ field. field.1)) schema);

@@ -7,13 +7,13 @@ use Rattle.ps_frame.specs.Aggregates.{max_rows}
 use Rattle.ps_frame.specs.Frames.{AllOfHeight, HasKinds, IsFrame, column_values}
 use Rattle.ps_frame.specs.Functions.{Functions}
 use Rattle.ps_frame.specs.Tables.{Fields, Frame, beside, field_index, rows_of, values_at, whole}
-use Rattle.ps_frame.specs.Typed.{Typed}
+use Rattle.ps_frame.specs.Series.{Series}
 use Rattle.ps_frame.specs.declared.value.Value.{Value}
 use Rattle.ps_frame.specs.declared.value.Value.TheVariants as val
-use Rattle.ps_plan.specs.Distinct.{picked, places_in}
-use Rattle.ps_plan.specs.Nodes.{GivesFrame}
-use Rattle.ps_plan.specs.Schemas.{named_fields}
-use Rattle.ps_plan.specs.Steps.{Name, project, scan}
+use Rattle.ps_meaning.specs.Distinct.{picked, places_in}
+use Rattle.ps_meaning.specs.Nodes.{GivesFrame}
+use Rattle.ps_meaning.specs.Schemas.{named_fields}
+use Rattle.ps_meaning.specs.Steps.{Name, project, scan}
 use Rattle.ps_tables.proofs.Cuts.{table}
 
 abbrev pub columns_at : List (List Value) → List ℕ → List (List Value)
@@ -31,7 +31,7 @@ pub rows-picked : (rows : List (List Value)) (ks : List ℕ) → rows_of (length
 rows-picked rows [] = no-columns rows
 rows-picked rows (k ∷ ks) = ap (beside (values_at k rows)) (rows-picked rows ks) ∙ beside-picked k ks rows
 
-pub heights-at : (rows : List (List Value)) (ks : List ℕ) (cs : List Typed) (h : ℕ) → h ≡ length rows → column_values cs ≡ columns_at rows ks → AllOfHeight h cs
+pub heights-at : (rows : List (List Value)) (ks : List ℕ) (cs : List Series) (h : ℕ) → h ≡ length rows → column_values cs ≡ columns_at rows ks → AllOfHeight h cs
 heights-at rows ks [] h high e = tt
 heights-at rows [] (c ∷ cs) h high e = cc
 heights-at rows (k ∷ ks) (c ∷ cs) h high e =
@@ -40,7 +40,7 @@ heights-at rows (k ∷ ks) (c ∷ cs) h high e =
     (ap length first ∙ length-map rows (λ row. get_or row k val.Null) ∙ sym high, heights-at rows ks cs h high rest)
 
 -- the values of one more column
-pub values-step : (rows : List (List Value)) (ns : List Name) (s : Fields) (i : ℕ) (n : Name) (c : Typed) (cs new : List Typed) → i < length ns → n ≡ get_or ns i n → c.values ≡ values_at (unwrap_or (field_index n s) 0) rows
+pub values-step : (rows : List (List Value)) (ns : List Name) (s : Fields) (i : ℕ) (n : Name) (c : Series) (cs new : List Series) → i < length ns → n ≡ get_or ns i n → c.values ≡ values_at (unwrap_or (field_index n s) 0) rows
     → column_values cs ≡ columns_at rows (places_in (take i ns) s) → new ≡ cs ++ c ∷ [] → column_values new ≡ columns_at rows (places_in (take (i + 1) ns) s)
 values-step rows ns s i n c cs new h is values before grown =
     let place : Name → ℕ = λ n. unwrap_or (field_index n s) 0 in
@@ -48,10 +48,10 @@ values-step rows ns s i n c cs new h is values before grown =
     ap (λ ms. columns_at rows (places_in ms s)) (take-suc ns i n h ∙ ap (λ m. take i ns ++ m ∷ []) (sym is))
     ∙ ap (columns_at rows) (map-append place (take i ns) (n ∷ []))
     ∙ map-append (λ k. values_at k rows) (places_in (take i ns) s) (place n ∷ []) in
-    rw add-one (ap column_values grown ∙ map-append (λ (c : Typed). c.values) cs (c ∷ []) ∙ (λ i. before i ++ values i ∷ []) ∙ sym more)
+    rw add-one (ap column_values grown ∙ map-append (λ (c : Series). c.values) cs (c ∷ []) ∙ (λ i. before i ++ values i ∷ []) ∙ sym more)
 
 -- Columns of names are a table, and its rows are those of the step.
-module _ (t : Frame) (ns : List Name) (out : Fields) (cs : List Typed) (found : named_fields ns t.schema ≡ Some out) (values : column_values cs ≡ columns_at t.rows (places_in ns t.schema)) (h : ℕ) (high : h ≡ length t.rows) where
+module _ (t : Frame) (ns : List Name) (out : Fields) (cs : List Series) (found : named_fields ns t.schema ≡ Some out) (values : column_values cs ≡ columns_at t.rows (places_in ns t.schema)) (h : ℕ) (high : h ≡ length t.rows) where
   pub named-frame : h ≤ max_rows → HasKinds out cs → IsFrame out cs h
   named-frame small kinds = record { kinds = kinds; heights = heights-at t.rows (places_in ns t.schema) cs h high values; small = small }
 

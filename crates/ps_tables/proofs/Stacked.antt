@@ -1,6 +1,6 @@
 -- The rows of tables, one table after the other.
 use Rattle.std.proofs.Common.{◌≡◌, ◌≢◌, ℕ, zero, suc, ◌+◌, ◌-◌, ◌^◌, ◌<◌, ◌≤◌, min, List, [], ◌∷◌, ◌++◌, length, take, get_or, refl, sym, ap, subst, ◌∙◌, inl, inr, add-one, append_assoc, length-append, arith}
-use Rattle.std.specs.Prelude.{IsTrue, Some, map, option_map, slice_get}
+use Rattle.std.specs.Prelude.{Some, map, option_map, slice_get}
 use Rattle.std.specs.List.{AllByRecursion}
 use Rattle.std.proofs.Math.Seq.{take-suc}
 use Rattle.std.proofs.lemmas.List.{append-nil, map-append}
@@ -10,8 +10,7 @@ use Rattle.ps_frame.specs.Frames.{HasKinds, IsFrame, column_values, kinds_of}
 use Rattle.ps_frame.specs.Functions.{Functions}
 use Rattle.ps_frame.specs.Lawful.{FitsFrame, FitsKinds}
 use Rattle.ps_frame.specs.Tables.{Fields, Frame, rows_of, values_at, whole}
-use Rattle.ps_frame.specs.Typed.{Typed, all_fit}
-use Rattle.ps_frame.specs.Values.{fits_kind}
+use Rattle.ps_frame.specs.Series.{Series}
 use Rattle.ps_frame.specs.Zip.{below}
 use Rattle.ps_frame.specs.declared.refusal.Bound.TheVariants as bound
 use Rattle.ps_frame.specs.declared.refusal.PolarsError.TheVariants as error
@@ -19,13 +18,12 @@ use Rattle.ps_frame.specs.declared.value.DataFault.TheVariants as fault
 use Rattle.ps_frame.specs.declared.value.DataType.{DataType}
 use Rattle.ps_frame.specs.declared.value.Value.{Value}
 use Rattle.ps_frame.specs.declared.value.Value.TheVariants as val
-use Rattle.ps_frame.proofs.Lists.{and_both}
-use Rattle.ps_plan.specs.Cases.{cut_by, union_rows}
-use Rattle.ps_plan.specs.Distinct.{picked}
-use Rattle.ps_plan.specs.Nodes.{GivesFrame, MayFault, wholes}
-use Rattle.ps_plan.specs.Steps.{Cut, union}
-use Rattle.ps_plan.proofs.Fits.{all-append}
-use Rattle.ps_plan.proofs.OneInput.{fits-length, places-all}
+use Rattle.ps_meaning.specs.Cases.{cut_by, union_rows}
+use Rattle.ps_meaning.specs.Distinct.{picked}
+use Rattle.ps_meaning.specs.Nodes.{GivesFrame, MayFault, wholes}
+use Rattle.ps_meaning.specs.Steps.{Cut, union}
+use Rattle.ps_meaning.proofs.Fits.{all-append}
+use Rattle.ps_meaning.proofs.OneInput.{fits-length, places-all}
 use Rattle.ps_tables.specs.Columns.{all_rows}
 use Rattle.ps_tables.proofs.Cuts.{table}
 use Rattle.ps_tables.proofs.Projected.{columns_at, heights-at, rows-picked}
@@ -103,13 +101,13 @@ kinds-more [] i k e = cc
 kinds-more (f ∷ s) zero k e = ap (λ j. j ∷ []) (same_Some f.1 k e)
 kinds-more (f ∷ s) (suc i) k e = ap (λ ks. f.1 ∷ ks) (kinds-more s i k e)
 
-pub kinds-push : (s : Fields) (i : ℕ) (c : Typed) (cs new : List Typed) (k : DataType) → HasKinds (take i s) cs → option_map (λ (f : List ℕ × DataType). f.1) (slice_get s i) ≡ Some k → c.kind ≡ k → new ≡ cs ++ c ∷ [] → HasKinds (take (i + 1) s) new
+pub kinds-push : (s : Fields) (i : ℕ) (c : Series) (cs new : List Series) (k : DataType) → HasKinds (take i s) cs → option_map (λ (f : List ℕ × DataType). f.1) (slice_get s i) ≡ Some k → c.kind ≡ k → new ≡ cs ++ c ∷ [] → HasKinds (take (i + 1) s) new
 kinds-push s i c cs new k before e is grown =
-    rw add-one (ap (map (λ (c : Typed). c.kind)) grown ∙ map-append (λ (c : Typed). c.kind) cs (c ∷ []) ∙ (λ j. before j ++ is j ∷ []) ∙ sym (kinds-more s i k e))
+    rw add-one (ap (map (λ (c : Series). c.kind)) grown ∙ map-append (λ (c : Series). c.kind) cs (c ∷ []) ∙ (λ j. before j ++ is j ∷ []) ∙ sym (kinds-more s i k e))
 
-pub columns-push : (rows : List (List Value)) (i : ℕ) (c : Typed) (cs new : List Typed) → column_values cs ≡ columns_at rows (below i) → c.values ≡ values_at i rows → new ≡ cs ++ c ∷ [] → column_values new ≡ columns_at rows (below (i + 1))
+pub columns-push : (rows : List (List Value)) (i : ℕ) (c : Series) (cs new : List Series) → column_values cs ≡ columns_at rows (below i) → c.values ≡ values_at i rows → new ≡ cs ++ c ∷ [] → column_values new ≡ columns_at rows (below (i + 1))
 columns-push rows i c cs new before is grown =
-    rw add-one (ap column_values grown ∙ map-append (λ (c : Typed). c.values) cs (c ∷ []) ∙ (λ j. before j ++ is j ∷ []) ∙ sym (map-append (λ k. values_at k rows) (below i) (i ∷ [])))
+    rw add-one (ap column_values grown ∙ map-append (λ (c : Series). c.values) cs (c ∷ []) ∙ (λ j. before j ++ is j ∷ []) ∙ sym (map-append (λ k. values_at k rows) (below i) (i ∷ [])))
 
 -- rows that fit are those of their columns
 picked-all : (s : Fields) (rows : List (List Value)) → AllByRecursion (FitsKinds (kinds_of s)) rows → map (picked (below (length s))) rows ≡ rows
@@ -119,7 +117,7 @@ picked-all s (row ∷ rows) p =
     λ i. same i ∷ picked-all s rows p.1 i
 
 -- The columns of tables of one schema.
-module _ (s : Fields) (fs : List Frame) (cs : List Typed) (h : ℕ) (high : h ≡ length (all_rows fs)) (values : column_values cs ≡ columns_at (all_rows fs) (below (length s))) where
+module _ (s : Fields) (fs : List Frame) (cs : List Series) (h : ℕ) (high : h ≡ length (all_rows fs)) (values : column_values cs ≡ columns_at (all_rows fs) (below (length s))) where
   pub joined-frame : h ≤ max_rows → HasKinds s cs → IsFrame s cs h
   joined-frame few kinds = record { kinds = kinds; heights = heights-at (all_rows fs) (below (length s)) cs h high values; small = few }
 

@@ -1,3 +1,2 @@
-pub mod Called
 pub mod Numbers
 pub mod Columns

@@ -2,9 +2,9 @@
 ghost use Rattle.std.specs.Prelude.{◌≡◌, ◌∷◌, [], Err, IfOk, OnErr, ℕ};
 ghost use Rattle.ps_frame.specs.Functions.{Functions};
 ghost use Rattle.ps_frame.specs.Tables.{whole};
-ghost use Rattle.ps_plan.specs.Cases.{cut_by, cut_table, offset_of as place_of};
-ghost use Rattle.ps_plan.specs.Nodes.{GivesFrame};
-ghost use Rattle.ps_plan.specs.Steps.{slice as slice_step};
+ghost use Rattle.ps_meaning.specs.Cases.{cut_by, cut_table, offset_of as place_of};
+ghost use Rattle.ps_meaning.specs.Nodes.{GivesFrame};
+ghost use Rattle.ps_meaning.specs.Steps.{slice as slice_step};
 
 use ps_frame::frame::DataFrame;
 use ps_frame::refusal::{PolarsError, PolarsResult};

@@ -2,7 +2,7 @@
 ghost use Rattle.std.specs.Prelude.{◌≡◌, Err, IfOk, IsTrue, OnErr};
 ghost use Rattle.ps_frame.specs.Frames.{IsFrame, column_values};
 ghost use Rattle.ps_frame.specs.Tables.{rows_of};
-ghost use Rattle.ps_frame.specs.Typed.{all_fit};
+ghost use Rattle.ps_frame.specs.Series.{all_fit};
 
 use ps_frame::column::Column;
 use ps_frame::frame::DataFrame;

@@ -6,9 +6,9 @@ ghost use Rattle.ps_frame.specs.Frames.{HasKinds, column_values};
 ghost use Rattle.ps_frame.specs.Functions.{Functions};
 ghost use Rattle.ps_frame.specs.Tables.{Frame};
 ghost use Rattle.ps_frame.specs.declared.value.Value.TheVariants as val;
-ghost use Rattle.ps_plan.specs.Nodes.{GivesFrame};
-ghost use Rattle.ps_plan.specs.Schemas.{joined_schemas};
-ghost use Rattle.ps_plan.specs.Steps.{hconcat as hconcat_step};
+ghost use Rattle.ps_meaning.specs.Nodes.{GivesFrame};
+ghost use Rattle.ps_meaning.specs.Schemas.{joined_schemas};
+ghost use Rattle.ps_meaning.specs.Steps.{hconcat as hconcat_step};
 ghost use Rattle.ps_tables.specs.Columns.{all_values, filled as filled_values, filled_to};
 
 use crate::framed::{column_of_values, frame_of_height, shared};

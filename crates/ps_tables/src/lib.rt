@@ -2,13 +2,11 @@
 #![tactic(auto)]
 
 pub mod cut;
-mod fits;
+pub mod fits;
 pub mod framed;
 pub mod hconcat;
 pub mod pass;
 pub mod project;
 pub mod row_index;
-#[cfg(test)]
-mod tests;
 pub mod union;
 pub mod user;

@@ -1,9 +1,9 @@
 // The nodes that give their table as it is.
 ghost use Rattle.std.specs.Prelude.{◌≡◌, ◌∷◌, [], Err, IfOk, None, OnErr, ℕ};
 ghost use Rattle.ps_frame.specs.Functions.{Functions};
-ghost use Rattle.ps_plan.specs.Nodes.{GivesFrame};
-ghost use Rattle.ps_plan.specs.Steps.{cache, scan, sink};
-ghost use Rattle.ps_plan.specs.declared.ir.SinkType.{SinkType};
+ghost use Rattle.ps_meaning.specs.Nodes.{GivesFrame};
+ghost use Rattle.ps_meaning.specs.Steps.{cache, scan, sink};
+ghost use Rattle.ps_meaning.specs.declared.options.SinkType.{SinkType};
 
 use ps_frame::frame::DataFrame;
 use ps_frame::refusal::{PolarsError, PolarsResult};

@@ -3,17 +3,17 @@ ghost use Rattle.std.specs.Prelude.{◌≡◌, ◌∷◌, [], Err, IfOk, IsSome,
 ghost use Rattle.ps_frame.specs.Frames.{HasKinds, column_values};
 ghost use Rattle.ps_frame.specs.Functions.{Functions};
 ghost use Rattle.ps_frame.specs.Tables.{field_index, field_kind, values_at};
-ghost use Rattle.ps_plan.specs.Distinct.{places_in};
-ghost use Rattle.ps_plan.specs.Nodes.{GivesFrame};
-ghost use Rattle.ps_plan.specs.Schemas.{named_fields};
-ghost use Rattle.ps_plan.specs.Steps.{project as project_step, scan as scan_step};
+ghost use Rattle.ps_meaning.specs.Distinct.{places_in};
+ghost use Rattle.ps_meaning.specs.Nodes.{GivesFrame};
+ghost use Rattle.ps_meaning.specs.Schemas.{named_fields};
+ghost use Rattle.ps_meaning.specs.Steps.{project as project_step, scan as scan_step};
 
 use crate::framed::{frame_of_height, shared};
 use ps_frame::column::Column;
 use ps_frame::frame::DataFrame;
 use ps_frame::refusal::{PolarsError, PolarsResult};
 use ps_frame::schema::Schema;
-use pu_order::PlSmallStr;
+use pu_base::PlSmallStr;
 use std::alloc::Global;
 
 /// The named columns of a table, in the order of the names, under the schema that they have there: the table of a scan

@@ -3,8 +3,8 @@ ghost use Rattle.std.specs.Prelude.{◌≡◌, ◌∷◌, ◌+◌, ◌≤◌, []
 ghost use Rattle.ps_frame.specs.Aggregates.{max_rows};
 ghost use Rattle.ps_frame.specs.Functions.{Functions};
 ghost use Rattle.ps_frame.specs.declared.value.DataType.TheVariants as kind;
-ghost use Rattle.ps_plan.specs.Nodes.{GivesFrame, MayFault};
-ghost use Rattle.ps_plan.specs.Steps.{row_index as row_index_step};
+ghost use Rattle.ps_meaning.specs.Nodes.{GivesFrame, MayFault};
+ghost use Rattle.ps_meaning.specs.Steps.{row_index as row_index_step};
 ghost use Rattle.ps_tables.specs.Numbers.{numbers_from};
 
 use crate::framed::{column_of_values, frame_of_height, shared};
@@ -13,7 +13,7 @@ use ps_frame::frame::DataFrame;
 use ps_frame::refusal::{Bound, PolarsError, PolarsResult};
 use ps_frame::schema::Schema;
 use ps_frame::value::{DataType, Value};
-use pu_index::Node;
+use pu_base::Node;
 use std::alloc::Global;
 
 /// The table of a row index at the node `at`: the number of each row, counted from the offset, and then its values.

@@ -7,8 +7,8 @@ ghost use Rattle.ps_frame.specs.Functions.{Functions};
 ghost use Rattle.ps_frame.specs.Lawful.{FitsFrame};
 ghost use Rattle.ps_frame.specs.Tables.{Frame, values_at};
 ghost use Rattle.ps_frame.specs.Zip.{below};
-ghost use Rattle.ps_plan.specs.Nodes.{GivesFrame, MayFault};
-ghost use Rattle.ps_plan.specs.Steps.{union as union_step};
+ghost use Rattle.ps_meaning.specs.Nodes.{GivesFrame, MayFault};
+ghost use Rattle.ps_meaning.specs.Steps.{union as union_step};
 ghost use Rattle.ps_tables.specs.Columns.{all_rows};
 
 use crate::cut::cut;
@@ -21,7 +21,7 @@ use ps_frame::frame::DataFrame;
 use ps_frame::refusal::{Bound, PolarsError, PolarsResult};
 use ps_frame::schema::Schema;
 use ps_frame::value::DataType;
-use pu_index::Node;
+use pu_base::Node;
 use std::alloc::Global;
 
 /// The table of a union at the node `at`: the rows of its inputs, which have one schema, one input after the other, of
@@ -82,6 +82,7 @@ fn one_after_another(
             return pass(alloc, df);
         }
     }
+    // A law: each row has a value at each place, so columns above one another are the rows after one another.
     tables_fit(inputs);
     let columns = joined_columns(alloc, inputs, schema)?;
     frame_of_height(alloc, schema, columns, height)

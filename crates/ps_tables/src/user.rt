@@ -1,13 +1,12 @@
 // The answer of a function that was handed in.
 ghost use Rattle.std.specs.Prelude.{◌≡◌, ◌<◌, ◌∷◌, [], IfErr, IfOk, IsSome};
-ghost use Rattle.ps_plan.specs.Nodes.{GivesFrame, MayFault};
-ghost use Rattle.ps_plan.specs.Steps.{user as user_step};
-ghost use Rattle.ps_tables.specs.Called.{functions_of};
+ghost use Rattle.ps_meaning.specs.Nodes.{GivesFrame, MayFault};
+ghost use Rattle.ps_meaning.specs.Steps.{user as user_step};
 
 use ps_frame::frame::DataFrame;
 use ps_frame::functions::{CallError, Functions};
 use ps_frame::refusal::{Compute, PolarsError, PolarsResult};
-use pu_index::Node;
+use pu_base::Node;
 use std::alloc::Global;
 
 /// What function n answers, at the node `at`, to a table for whose schema it declares one. A function that may be given
@@ -21,10 +20,10 @@ pub fn user<F: Functions>(
     n: usize,
     df: DataFrame,
 ) -> PolarsResult<DataFrame>
-    requires counted { n < F.counted functions.now }
-    requires declared { IsSome (F.declared n df.schema) }
-    ensures table { IfOk result (λ f. GivesFrame (functions_of (F.counted functions.now) F.streams F.answer F.declared) at.0 (user_step n) (df ∷ []) f) }
-    ensures fault { IfErr result (λ e. MayFault (functions_of (F.counted functions.now) F.streams F.answer F.declared) at.0 (user_step n) (df ∷ []) e) }
+    requires counted { n < (F.told functions.now).count }
+    requires declared { IsSome ((F.told functions.now).declared n df.schema) }
+    ensures table { IfOk result (λ f. GivesFrame (F.told functions.now) at.0 (user_step n) (df ∷ []) f) }
+    ensures fault { IfErr result (λ e. MayFault (F.told functions.now) at.0 (user_step n) (df ∷ []) e) }
 {
     match functions.call(alloc, n, df) {
         Ok(table) => Ok(table),

@@ -1,7 +1,7 @@
 -- A typing rule that isn't kept is broken, and a kept one gives the kind.
 use Rattle.std.proofs.Common.{◌≡◌, ℕ, suc, ◌+◌, ◌<◌, List, [], ◌∷◌, length, get_or, drop, Bool, true, false, Ok, Err, Result, refl, sym, subst, ◌∙◌, ap, add-one, drop-cons}
 use Rattle.std.specs.Prelude.{not, ◌&&◌, ◌||◌, ◌==◌, Option, Some, None, if◌then◌else◌, IfErr, IsErrAnd}
-use Rattle.pu_index.specs.declared.arena.Node.{Node}
+use Rattle.pu_base.specs.declared.arena.Node.{Node}
 use Rattle.ps_frame.specs.Parts.{tree_parts, trees_parts}
 use Rattle.ps_frame.specs.Refusals.{breaks_rule, has_kind_where, refuses_input, refuses_pair, refuses_values}
 use Rattle.ps_frame.specs.Tables.{Fields}

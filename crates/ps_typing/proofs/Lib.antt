@@ -1,4 +1,3 @@
-pub mod Arenas
 pub mod Broken
 pub mod Columns
 pub mod Exact

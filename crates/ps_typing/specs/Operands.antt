@@ -1,5 +1,5 @@
 -- What an aggregate of the arena is, and over which expression it goes.
-use Rattle.pu_index.specs.declared.arena.Node.{Node}
+use Rattle.pu_base.specs.declared.arena.Node.{Node}
 use Rattle.ps_frame.specs.Trees.{Aggregation}
 use Rattle.ps_frame.specs.declared.expr.IRAggExpr.{IRAggExpr}
 use Rattle.ps_frame.specs.declared.expr.IRAggExpr.TheVariants as agg

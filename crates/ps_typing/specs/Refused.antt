@@ -1,7 +1,7 @@
 -- The errors by which typing refuses an expression.
 use Rattle.std.specs.Prelude.{◌≡◌, List, IsFalse, IsTrue, Contains, ⊤}
 use Rattle.std.specs.List.{list_any}
-use Rattle.pu_index.specs.declared.arena.Node.{Node}
+use Rattle.pu_base.specs.declared.arena.Node.{Node}
 use Rattle.ps_frame.specs.Frames.{has_name}
 use Rattle.ps_frame.specs.Parts.{is_column_of, tree_parts, trees_parts}
 use Rattle.ps_frame.specs.Refusals.{breaks_rule}

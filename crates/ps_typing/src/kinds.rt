@@ -15,8 +15,7 @@ use ps_frame::laws::kinds_are_exact;
 use ps_frame::refusal::{PolarsError, PolarsResult};
 use ps_frame::schema::Schema;
 use ps_frame::value::DataType;
-use pu_index::{Arena, Node};
-use pu_order::Steps;
+use pu_base::{Arena, Node, Steps};
 use std::alloc::Global;
 use std::marker::Brand;
 use std::sync::ledger::{Blank, Ledger};
@@ -64,7 +63,7 @@ fn uncounted_kind<L: Ledger>(
 
 /// The kind of an expression, and whether it gives one cell, whatever the table.
 #[derive(Clone, Copy, Debug, PartialEq, Eq)]
-pub struct Typed {
+pub struct TypedExpr {
     pub dtype: DataType,
     pub is_scalar: bool,
 }
@@ -82,7 +81,7 @@ pub fn type_expr<L: Ledger>(
     arena: &Arena<AExpr>,
     schema: &Schema,
     steps: &mut Steps<L>,
-) -> PolarsResult<Typed>
+) -> PolarsResult<TypedExpr>
     requires { IsExpression arena.now.items expr }
     ensures kind { IfOk result (λ t. kind_over schema.now (tree_at arena.now.items expr) ≡ Some t.dtype) }
     ensures scalar { IfOk result (λ t. t.is_scalar ≡ is_scalar (tree_at arena.now.items expr)) }
@@ -93,12 +92,12 @@ pub fn type_expr<L: Ledger>(
     match entry(expr, arena) {
         AExpr::Column(name) => {
             let dtype = column_kind(alloc, at, name, schema)?;
-            Ok(Typed {
+            Ok(TypedExpr {
                 dtype,
                 is_scalar: false,
             })
         }
-        AExpr::Literal(literal) => Ok(Typed {
+        AExpr::Literal(literal) => Ok(TypedExpr {
             dtype: literal_kind(literal),
             is_scalar: true,
         }),
@@ -108,7 +107,7 @@ pub fn type_expr<L: Ledger>(
             let Some(dtype) = binary_kind(*op, left.dtype, right.dtype) else {
                 return Err(PolarsError::SchemaMismatch { node: at });
             };
-            Ok(Typed {
+            Ok(TypedExpr {
                 dtype,
                 is_scalar: left.is_scalar && right.is_scalar,
             })
@@ -118,7 +117,7 @@ pub fn type_expr<L: Ledger>(
             let Some(dtype) = cast_kind(*dtype, from.dtype) else {
                 return Err(PolarsError::SchemaMismatch { node: at });
             };
-            Ok(Typed {
+            Ok(TypedExpr {
                 dtype,
                 is_scalar: from.is_scalar,
             })
@@ -135,7 +134,7 @@ pub fn type_expr<L: Ledger>(
             if !have_keys(by.as_slice(), descending.as_slice(), nulls_last.as_slice()) {
                 return Err(PolarsError::SchemaMismatch { node: at });
             }
-            Ok(Typed {
+            Ok(TypedExpr {
                 dtype: sorted.dtype,
                 is_scalar: sorted.is_scalar && keys,
             })
@@ -150,7 +149,7 @@ pub fn type_expr<L: Ledger>(
             if !is_number(idx.dtype) || (*returns_scalar && !idx.is_scalar) {
                 return Err(PolarsError::SchemaMismatch { node: at });
             }
-            Ok(Typed {
+            Ok(TypedExpr {
                 dtype: gathered.dtype,
                 is_scalar: *returns_scalar,
             })
@@ -161,7 +160,7 @@ pub fn type_expr<L: Ledger>(
             if by.dtype != DataType::Boolean {
                 return Err(PolarsError::SchemaMismatch { node: at });
             }
-            Ok(Typed {
+            Ok(TypedExpr {
                 dtype: input.dtype,
                 is_scalar: false,
             })
@@ -171,7 +170,7 @@ pub fn type_expr<L: Ledger>(
             let Some(dtype) = aggregate_kind(aggregate, input.dtype) else {
                 return Err(PolarsError::SchemaMismatch { node: at });
             };
-            Ok(Typed {
+            Ok(TypedExpr {
                 dtype,
                 is_scalar: true,
             })
@@ -187,7 +186,7 @@ pub fn type_expr<L: Ledger>(
             if predicate.dtype != DataType::Boolean || truthy.dtype != falsy.dtype {
                 return Err(PolarsError::SchemaMismatch { node: at });
             }
-            Ok(Typed {
+            Ok(TypedExpr {
                 dtype: truthy.dtype,
                 is_scalar: predicate.is_scalar && truthy.is_scalar && falsy.is_scalar,
             })
@@ -197,7 +196,7 @@ pub fn type_expr<L: Ledger>(
             let Some(dtype) = function_kind(*function, input.dtype) else {
                 return Err(PolarsError::SchemaMismatch { node: at });
             };
-            Ok(Typed {
+            Ok(TypedExpr {
                 dtype,
                 is_scalar: input.is_scalar,
             })
@@ -213,12 +212,12 @@ pub fn type_expr<L: Ledger>(
             if !is_bound(offset) || !is_bound(length) {
                 return Err(PolarsError::SchemaMismatch { node: at });
             }
-            Ok(Typed {
+            Ok(TypedExpr {
                 dtype: input.dtype,
                 is_scalar: false,
             })
         }
-        AExpr::Len => Ok(Typed {
+        AExpr::Len => Ok(TypedExpr {
             dtype: DataType::IdxSize,
             is_scalar: true,
         }),
@@ -230,7 +229,7 @@ pub fn type_expr<L: Ledger>(
 }
 
 // Whether a slice takes this as a bound.
-fn is_bound(bound: Typed) -> bool
+fn is_bound(bound: TypedExpr) -> bool
     ensures { result ≡ (bound.is_scalar && same_kind bound.dtype kind.Int64) }
 {
     bound.is_scalar && bound.dtype == DataType::Int64

@@ -4,5 +4,3 @@
 pub mod kinds;
 pub mod nature;
 mod rules;
-#[cfg(test)]
-mod tests;

@@ -7,8 +7,7 @@ ghost use Rattle.ps_frame.specs.Typing.{are_scalar as are_scalar_trees, every_pa
 
 use crate::rules::aggregated;
 use ps_frame::expr::{AExpr, entry};
-use pu_index::{Arena, Node};
-use pu_order::Steps;
+use pu_base::{Arena, Node, Steps};
 use std::marker::Brand;
 use std::sync::ledger::{Blank, Ledger};
 

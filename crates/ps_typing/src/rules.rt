@@ -10,8 +10,7 @@ use ps_frame::expr::{FunctionExpr, IRAggExpr, LiteralValue, Operator};
 use ps_frame::refusal::{PolarsError, PolarsResult};
 use ps_frame::schema::Schema;
 use ps_frame::value::DataType;
-use pu_index::Node;
-use pu_order::PlSmallStr;
+use pu_base::{Node, PlSmallStr};
 use std::alloc::Global;
 
 // The kind of the column of a name.

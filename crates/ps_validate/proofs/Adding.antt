@@ -7,7 +7,7 @@ use Rattle.std.proofs.lemmas.Bool.{and_from, cases_Bool, or_left, or_right}
 use Rattle.std.proofs.Math.Seq.{drop-length}
 use Rattle.std.proofs.lemmas.List.{append-nil}
 use Rattle.std.proofs.lemmas.Slice.Eq.{bytes_eq-Decides}
-use Rattle.pu_index.specs.declared.arena.Node.{Node}
+use Rattle.pu_base.specs.declared.arena.Node.{Node}
 use Rattle.ps_frame.proofs.Names.{distinct-append}
 use Rattle.ps_frame.specs.Frames.{has_distinct_names, has_name}
 use Rattle.ps_frame.specs.Parts.{tree_parts}
@@ -19,11 +19,11 @@ use Rattle.ps_frame.specs.declared.error.FrameError.TheVariants as frame
 use Rattle.ps_frame.specs.declared.refusal.PolarsError.{PolarsError}
 use Rattle.ps_frame.specs.declared.refusal.PolarsError.TheVariants as error
 use Rattle.ps_frame.specs.declared.value.DataType.{DataType}
-use Rattle.ps_plan.specs.Plans.{all_sizes}
-use Rattle.ps_plan.specs.Refusals.{repeats}
-use Rattle.ps_plan.specs.Schemas.{both as both_of, expr_names, fields_of, is_among, names_of}
-use Rattle.ps_plan.specs.Steps.{Name, Named, exprs_of, name_in, named_trees}
-use Rattle.ps_plan.specs.declared.ir.ExprIR.{ExprIR}
+use Rattle.ps_meaning.specs.PlanTrees.{all_sizes}
+use Rattle.ps_meaning.specs.StepRefusals.{repeats}
+use Rattle.ps_meaning.specs.Schemas.{both as both_of, expr_names, fields_of, is_among, names_of}
+use Rattle.ps_meaning.specs.Steps.{Name, Named, exprs_of, name_in, named_trees}
+use Rattle.ps_meaning.specs.declared.options.ExprIR.{ExprIR}
 use Rattle.ps_typing.proofs.Parts.{AreAmong, among-left, among-right, among-then, carried}
 use Rattle.ps_typing.specs.Refused.{IsErrorAmong}
 use Rattle.ps_validate.specs.Fields.{IsFieldError, IsPushError, all_parts, not_scalar}

@@ -6,9 +6,10 @@ use Rattle.ps_frame.specs.Functions.{Functions}
 use Rattle.ps_frame.specs.Tables.{Fields}
 use Rattle.ps_frame.specs.Trees.{Tree, IsComplete}
 use Rattle.ps_frame.specs.declared.refusal.PolarsError.{PolarsError}
-use Rattle.pu_index.specs.declared.arena.Node.{Node}
-use Rattle.ps_plan.specs.Plans.{all_sizes}
-use Rattle.ps_plan.specs.Steps.{Step, entry_inputs, entry_step}
+use Rattle.pu_base.specs.declared.arena.Node.{Node}
+use Rattle.ps_meaning.specs.PlanTrees.{all_sizes}
+use Rattle.ps_meaning.specs.Steps.{Step}
+use Rattle.ps_plan.specs.Entries.{entry_inputs, entry_step}
 use Rattle.ps_plan.specs.declared.ir.IR.{IR}
 use Rattle.ps_validate.specs.Known.{Known, schemas_in}
 use Rattle.ps_validate.specs.Nodes.{GivesSchema, IsNodeError}

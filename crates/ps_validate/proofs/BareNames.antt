@@ -5,11 +5,11 @@ use Rattle.std.specs.List.{AllByRecursion}
 use Rattle.std.specs.Str.{bytes_eq}
 use Rattle.std.specs.Cmp.{nat_eq_equiv}
 use Rattle.std.specs.Cmp.Lexicographic.{lists_equiv}
-use Rattle.pu_index.specs.declared.arena.Node.{Node}
+use Rattle.pu_base.specs.declared.arena.Node.{Node}
 use Rattle.ps_frame.specs.Trees.{IsComplete, Tree}
-use Rattle.ps_plan.specs.Schemas.{bare_names, is_among}
-use Rattle.ps_plan.specs.Steps.{Name, key_trees}
-use Rattle.ps_plan.specs.declared.ir.ExprIR.{ExprIR}
+use Rattle.ps_meaning.specs.Schemas.{bare_names, is_among}
+use Rattle.ps_meaning.specs.Steps.{Name, key_trees}
+use Rattle.ps_meaning.specs.declared.options.ExprIR.{ExprIR}
 
 -- one more name in a set
 gathered : (a b c : Bool) → (cond a true b || c) ≡ (b || (a || c))

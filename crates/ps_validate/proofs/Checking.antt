@@ -8,22 +8,25 @@ use Rattle.std.proofs.Math.Seq.{take-length, take-suc}
 use Rattle.std.proofs.lemmas.List.Sums.{sum_by-drop_more}
 use Rattle.std.proofs.lemmas.Option.{get_or_from_slice_get, slice_get_within}
 use Rattle.std.proofs.lemmas.List.Elements.{Contains-append_cases}
-use Rattle.pu_index.specs.declared.arena.Node.{Node}
+use Rattle.pu_base.specs.declared.arena.Node.{Node}
 use Rattle.ps_frame.specs.Functions.{Functions}
 use Rattle.ps_frame.specs.Tables.{Fields}
 use Rattle.ps_frame.specs.Trees.{IsComplete, tree_at}
 use Rattle.ps_frame.specs.declared.refusal.PolarsError.{PolarsError}
 use Rattle.ps_frame.specs.declared.refusal.PolarsError.TheVariants as error
 use Rattle.ps_frame.specs.declared.refusal.Why.{Why}
-use Rattle.ps_plan.specs.Errors.{refusal_error}
+use Rattle.ps_meaning.specs.Errors.{refusal_error}
 use Rattle.ps_plan.specs.Graph.{Reached, here, inputs_at, named_by}
-use Rattle.ps_plan.specs.Plans.{Plan, PlanTree, PlanTrees, all_sizes, node, plan_at, plan_trees_of, tree_of}
-use Rattle.ps_plan.specs.Refusals.{AreClean, GraphRefused, IsClean, IsRefused, IsValid, NamesMissingFunction, Refusal, TreeRefused, TypingRefused, column_not_found, duplicate, schema_mismatch, unsupported}
-use Rattle.ps_plan.specs.Schemas.{output_schema, tree_schema, tree_schemas}
-use Rattle.ps_plan.specs.Steps.{Step, entry_inputs, entry_step, step_exprs}
+use Rattle.ps_meaning.specs.PlanTrees.{PlanTree, PlanTrees, all_sizes, node}
+use Rattle.ps_plan.specs.Plans.{Plan, plan_at, plan_trees_of, tree_of}
+use Rattle.ps_meaning.specs.StepRefusals.{NamesMissingFunction, Refusal, TypingRefused, column_not_found, duplicate, schema_mismatch, unsupported}
+use Rattle.ps_plan.specs.Refusals.{AreClean, GraphRefused, IsClean, IsRefused, IsValid, TreeRefused}
+use Rattle.ps_meaning.specs.Schemas.{output_schema, tree_schema, tree_schemas}
+use Rattle.ps_meaning.specs.Steps.{Step, step_exprs}
+use Rattle.ps_plan.specs.Entries.{entry_inputs, entry_step}
 use Rattle.ps_plan.specs.declared.ir.IR.{IR}
 use Rattle.ps_plan.proofs.Complete.{numbers, there}
-use Rattle.ps_plan.proofs.ReachedSteps.{contains-first, contains-later}
+use Rattle.ps_meaning.proofs.Containing.{contains-first, contains-later}
 use Rattle.ps_plan.proofs.Unfolding.{complete-is, plan_at-is}
 use Rattle.ps_survey.proofs.Lists.{from-at, same-or-not, slice_get-set_other, slice_get-set_same}
 use Rattle.ps_survey.specs.Flaws.{Flaw}

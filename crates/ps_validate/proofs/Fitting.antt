@@ -1,7 +1,7 @@
 -- Entries that fit, and what is refused of others.
 use Rattle.std.proofs.Common.{◌≡◌, ◌≢◌, ℕ, List, [], ◌∷◌, Ok, Err, Result, refl, sym, subst, ap, inl, inr}
 use Rattle.std.specs.Prelude.{◌⊎◌, IfErr, OnErr, OnOk}
-use Rattle.pu_index.specs.declared.arena.Node.{Node}
+use Rattle.pu_base.specs.declared.arena.Node.{Node}
 use Rattle.ps_frame.specs.Trees.{Tree}
 use Rattle.ps_frame.specs.declared.refusal.Compute.{Compute}
 use Rattle.ps_frame.specs.declared.refusal.Compute.TheVariants as compute
@@ -9,11 +9,12 @@ use Rattle.ps_frame.specs.declared.refusal.PolarsError.{PolarsError}
 use Rattle.ps_frame.specs.declared.refusal.PolarsError.TheVariants as error
 use Rattle.ps_frame.specs.declared.refusal.Why.{Why}
 use Rattle.ps_frame.specs.declared.refusal.Why.TheVariants as why
-use Rattle.ps_plan.specs.Laws.{IsBuilt}
-use Rattle.ps_plan.specs.Refusals.{FlagsMisfit, HasBadKeys, HasNegativeCut, HasNoKey, IsFileSink, IsNegative, IsSinkStep, IsValidation, KeysMisfit, NamesMissingFunction}
-use Rattle.ps_plan.specs.Steps.{Cut, DistinctStep, Step, distinct, entry_inputs, entry_step, function_step, group_step, hconcat, join, key_trees, named_trees, sink, slice, sort, sort_step, union}
-use Rattle.ps_plan.specs.declared.ir.FunctionIR.{FunctionIR}
-use Rattle.ps_plan.specs.declared.ir.FunctionIR.TheVariants as call
+use Rattle.ps_meaning.specs.Laws.{IsBuilt}
+use Rattle.ps_meaning.specs.StepRefusals.{FlagsMisfit, HasBadKeys, HasNegativeCut, HasNoKey, IsFileSink, IsNegative, IsSinkStep, IsValidation, KeysMisfit, NamesMissingFunction}
+use Rattle.ps_meaning.specs.Steps.{Cut, DistinctStep, Step, distinct, function_step, group_step, hconcat, join, key_trees, named_trees, sink, slice, sort, sort_step, union}
+use Rattle.ps_plan.specs.Entries.{entry_inputs, entry_step}
+use Rattle.ps_meaning.specs.declared.options.FunctionIR.{FunctionIR}
+use Rattle.ps_meaning.specs.declared.options.FunctionIR.TheVariants as call
 use Rattle.ps_plan.specs.declared.ir.IR.{IR}
 use Rattle.ps_plan.specs.declared.ir.IR.TheVariants as entry
 use Rattle.ps_validate.specs.Entries.{IsStepError}

@@ -3,7 +3,7 @@ use Rattle.std.proofs.Common.{◌≡◌, ℕ, zero, suc, ◌+◌, ◌<◌, ◌�
 use Rattle.std.specs.Prelude.{Contains, map}
 use Rattle.std.specs.List.{AllByRecursion}
 use Rattle.std.proofs.lemmas.Option.{slice_get_within}
-use Rattle.pu_index.specs.declared.arena.Node.{Node}
+use Rattle.pu_base.specs.declared.arena.Node.{Node}
 use Rattle.ps_frame.proofs.Unfolding.{tree_within-more}
 use Rattle.ps_frame.specs.Trees.{Tree, Trees, Aggregation, AreComplete, IsComplete, IsExpression, aggregate_tree, entry_tree, tree_at, tree_within, trees_of}
 use Rattle.ps_frame.specs.declared.expr.AExpr.{AExpr}
@@ -11,11 +11,13 @@ use Rattle.ps_frame.specs.declared.expr.AExpr.TheVariants as expr
 use Rattle.ps_frame.specs.declared.expr.IRAggExpr.{IRAggExpr}
 use Rattle.ps_frame.specs.declared.expr.IRAggExpr.TheVariants as agg
 use Rattle.ps_plan.proofs.Unfolding.{IsPlan-in_range}
-use Rattle.ps_plan.specs.Plans.{AreCompletePlans, IsCompletePlan, IsPlan, PlanTree, PlanTrees, node_tree, plan_at, plan_trees_of, plan_within}
-use Rattle.ps_plan.specs.Steps.{Step, entry_inputs, entry_step, exprs_of, function_step, group_step, join, key_trees, name_in, named_trees, sort_step, step_exprs}
-use Rattle.ps_plan.specs.declared.ir.ExprIR.{ExprIR}
-use Rattle.ps_plan.specs.declared.ir.FunctionIR.{FunctionIR}
-use Rattle.ps_plan.specs.declared.ir.FunctionIR.TheVariants as call
+use Rattle.ps_meaning.specs.PlanTrees.{AreCompletePlans, IsCompletePlan, PlanTree, PlanTrees}
+use Rattle.ps_plan.specs.Plans.{IsPlan, node_tree, plan_at, plan_trees_of, plan_within}
+use Rattle.ps_meaning.specs.Steps.{Step, exprs_of, function_step, group_step, join, key_trees, name_in, named_trees, sort_step, step_exprs}
+use Rattle.ps_plan.specs.Entries.{entry_inputs, entry_step}
+use Rattle.ps_meaning.specs.declared.options.ExprIR.{ExprIR}
+use Rattle.ps_meaning.specs.declared.options.FunctionIR.{FunctionIR}
+use Rattle.ps_meaning.specs.declared.options.FunctionIR.TheVariants as call
 use Rattle.ps_plan.specs.declared.ir.IR.{IR}
 use Rattle.ps_plan.specs.declared.ir.IR.TheVariants as entry
 use Rattle.ps_survey.proofs.Lists.{slice_get-left}

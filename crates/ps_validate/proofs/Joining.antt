@@ -4,7 +4,7 @@ use Rattle.std.specs.Prelude.{Contains, map, not, zip, ◌&&◌, ◌||◌, ◌�
 use Rattle.std.specs.List.{list_any}
 use Rattle.std.proofs.lemmas.Bool.{or_cases, or_left, or_right}
 use Rattle.std.proofs.lemmas.List.Elements.{Contains-append_cases, Contains-append_left, Contains-append_right}
-use Rattle.pu_index.specs.declared.arena.Node.{Node}
+use Rattle.pu_base.specs.declared.arena.Node.{Node}
 use Rattle.ps_frame.specs.Frames.{has_distinct_names}
 use Rattle.ps_frame.specs.Functions.{Functions}
 use Rattle.ps_frame.specs.Refusals.{is_accepted, refuses_pair}
@@ -16,9 +16,9 @@ use Rattle.ps_frame.specs.declared.refusal.PolarsError.{PolarsError}
 use Rattle.ps_frame.specs.declared.refusal.PolarsError.TheVariants as error
 use Rattle.ps_frame.specs.declared.value.DataType.{DataType}
 use Rattle.ps_frame.specs.declared.value.DataType.TheVariants as kind
-use Rattle.ps_plan.specs.Refusals.{break_rules, lacks_column, pairs_differ}
-use Rattle.ps_plan.specs.Schemas.{join_schema, left_output, names_of, output_schema, right_output, suffix_of, suffixed}
-use Rattle.ps_plan.specs.Steps.{JoinStep, Name, join}
+use Rattle.ps_meaning.specs.StepRefusals.{break_rules, lacks_column, pairs_differ}
+use Rattle.ps_meaning.specs.Schemas.{join_schema, left_output, names_of, output_schema, right_output, suffix_of, suffixed}
+use Rattle.ps_meaning.specs.Steps.{JoinStep, Name, join}
 use Rattle.ps_typing.specs.Refused.{IsErrorAmong}
 use Rattle.ps_validate.proofs.Grouping.{parts-append}
 use Rattle.ps_validate.proofs.Keying.{among-error, keys-break, keys-hold, keys-lack}

@@ -3,13 +3,13 @@ use Rattle.std.proofs.Common.{◌≡◌, ◌≢◌, ℕ, zero, suc, ◌<◌, Lis
 use Rattle.std.specs.Prelude.{◌⊎◌, ℤ, pos, negsuc, ◌<ℤ◌, ◌≤ℤ◌, ⊤, IsTrue, IsFalse, map}
 use Rattle.std.proofs.lemmas.Int.{ints}
 use Rattle.std.proofs.lemmas.List.{length-map}
-use Rattle.pu_index.specs.declared.arena.Node.{Node}
+use Rattle.pu_base.specs.declared.arena.Node.{Node}
 use Rattle.ps_frame.specs.Trees.{Tree}
-use Rattle.ps_plan.specs.Refusals.{FlagsMisfit, IsNegative, KeysMisfit}
-use Rattle.ps_plan.specs.Steps.{Named, key_trees, name_in, named_trees}
-use Rattle.ps_plan.specs.declared.ir.ExprIR.{ExprIR}
-use Rattle.ps_plan.specs.declared.ir.JoinType.{JoinType}
-use Rattle.ps_plan.specs.declared.ir.JoinType.TheVariants as how
+use Rattle.ps_meaning.specs.StepRefusals.{FlagsMisfit, IsNegative, KeysMisfit}
+use Rattle.ps_meaning.specs.Steps.{Named, key_trees, name_in, named_trees}
+use Rattle.ps_meaning.specs.declared.options.ExprIR.{ExprIR}
+use Rattle.ps_meaning.specs.declared.options.JoinType.{JoinType}
+use Rattle.ps_meaning.specs.declared.options.JoinType.TheVariants as how
 
 pub negative-is : (z : ℤ) → z <ℤ pos 0 → IsNegative z
 negative-is (pos n) h = absurd (omega (arith, ints))

@@ -5,7 +5,7 @@ use Rattle.std.specs.List.{AllByRecursion, list_any}
 use Rattle.std.proofs.lemmas.Bool.{and_from, and_parts, or_cases}
 use Rattle.std.proofs.lemmas.List.{append-nil}
 use Rattle.std.proofs.Math.Seq.{drop-length}
-use Rattle.pu_index.specs.declared.arena.Node.{Node}
+use Rattle.pu_base.specs.declared.arena.Node.{Node}
 use Rattle.ps_frame.specs.Frames.{has_name}
 use Rattle.ps_frame.specs.Functions.{Functions}
 use Rattle.ps_frame.specs.Parts.{is_column_of, reads_column, some_part, tree_parts}
@@ -17,11 +17,11 @@ use Rattle.ps_frame.specs.declared.expr.What.{What}
 use Rattle.ps_frame.specs.declared.refusal.PolarsError.{PolarsError}
 use Rattle.ps_frame.specs.declared.refusal.PolarsError.TheVariants as error
 use Rattle.ps_frame.specs.declared.value.DataType.{DataType}
-use Rattle.ps_plan.specs.Plans.{all_sizes}
-use Rattle.ps_plan.specs.Refusals.{IsMissingColumn, StepMismatch, break_rules, lacks_column, own_exprs}
-use Rattle.ps_plan.specs.Schemas.{first_schema}
-use Rattle.ps_plan.specs.Steps.{Name, Step, key_trees, step_exprs}
-use Rattle.ps_plan.specs.declared.ir.ExprIR.{ExprIR}
+use Rattle.ps_meaning.specs.PlanTrees.{all_sizes}
+use Rattle.ps_meaning.specs.StepRefusals.{IsMissingColumn, StepMismatch, break_rules, lacks_column, own_exprs}
+use Rattle.ps_meaning.specs.Schemas.{first_schema}
+use Rattle.ps_meaning.specs.Steps.{Name, Step, key_trees, step_exprs}
+use Rattle.ps_meaning.specs.declared.options.ExprIR.{ExprIR}
 use Rattle.ps_typing.proofs.Exact.{any-at, none-refused}
 use Rattle.ps_typing.proofs.Parts.{AreAmong, among-left, among-right, among-then, carried}
 use Rattle.ps_typing.specs.Refused.{IsErrorAmong}

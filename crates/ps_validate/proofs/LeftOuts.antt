@@ -3,7 +3,7 @@ use Rattle.std.proofs.Common.{◌≡◌, ℕ, zero, suc, ◌<◌, List, [], ◌�
 use Rattle.std.specs.Prelude.{Contains, ◌⊎◌, Option, Some, None}
 use Rattle.std.specs.List.{AllByRecursion}
 use Rattle.std.proofs.lemmas.List.Elements.{Contains-append_cases, Contains-append_left, Contains-append_right}
-use Rattle.pu_index.specs.declared.arena.Node.{Node}
+use Rattle.pu_base.specs.declared.arena.Node.{Node}
 use Rattle.ps_frame.proofs.Unfolding.{tree_at-entry}
 use Rattle.ps_frame.specs.Parts.{tree_parts, trees_parts}
 use Rattle.ps_frame.specs.Trees.{AreComplete, IsComplete, IsExpression, Tree, aggregate_tree, entry_tree, tree_at, tree_within, trees_of}
@@ -15,7 +15,7 @@ use Rattle.ps_frame.specs.declared.expr.What.{What}
 use Rattle.ps_plan.specs.Graph.{Path, aggregate_operand, here, named_by, onward, operands, operands_at}
 use Rattle.ps_plan.specs.Plans.{Plan}
 use Rattle.ps_plan.proofs.Complete.{numbers}
-use Rattle.ps_plan.proofs.ReachedSteps.{contains-first, contains-later}
+use Rattle.ps_meaning.proofs.Containing.{contains-first, contains-later}
 
 -- the first item, or a later one
 pub first-or-later : {A : Type 0} (x : A) (xs : List A) (y : A) → Contains (x ∷ xs) y → (x ≡ y) ⊎ Contains xs y

@@ -6,15 +6,15 @@ use Rattle.std.proofs.lemmas.Bool.{and_from, and_parts, or_cases, or_left, or_ri
 use Rattle.std.proofs.lemmas.List.{append-nil}
 use Rattle.std.proofs.Math.Seq.{drop-length}
 use Rattle.std.proofs.lemmas.Slice.Eq.{bytes_eq-Decides}
-use Rattle.pu_index.specs.declared.arena.Node.{Node}
+use Rattle.pu_base.specs.declared.arena.Node.{Node}
 use Rattle.ps_frame.specs.Frames.{has_name}
 use Rattle.ps_frame.specs.Tables.{Fields, field_kind}
 use Rattle.ps_frame.specs.declared.refusal.PolarsError.{PolarsError}
 use Rattle.ps_frame.specs.declared.refusal.PolarsError.TheVariants as error
 use Rattle.ps_frame.specs.declared.value.DataType.{DataType}
-use Rattle.ps_plan.specs.Refusals.{lacks_name, repeats}
-use Rattle.ps_plan.specs.Schemas.{both as both_of, is_among, named_fields, names_of}
-use Rattle.ps_plan.specs.Steps.{Name}
+use Rattle.ps_meaning.specs.StepRefusals.{lacks_name, repeats}
+use Rattle.ps_meaning.specs.Schemas.{both as both_of, is_among, named_fields, names_of}
+use Rattle.ps_meaning.specs.Steps.{Name}
 use Rattle.ps_validate.proofs.Adding.{among-append, among-has, fields-next, names-next, repeats-again}
 use Rattle.ps_validate.specs.Columns.{IsNamingError}
 use Rattle.ps_validate.specs.Fields.{IsPushError}

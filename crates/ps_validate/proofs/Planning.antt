@@ -6,10 +6,12 @@ use Rattle.ps_frame.specs.declared.refusal.PolarsError.{PolarsError}
 use Rattle.ps_frame.specs.declared.refusal.PolarsError.TheVariants as error
 use Rattle.ps_frame.specs.declared.refusal.Why.{Why}
 use Rattle.ps_frame.specs.declared.refusal.Why.TheVariants as why
-use Rattle.ps_plan.specs.Errors.{refusal_error}
+use Rattle.ps_meaning.specs.Errors.{refusal_error}
 use Rattle.ps_plan.specs.Graph.{HasNoCircle, IsInRange, Reached, inputs_at}
-use Rattle.ps_plan.specs.Plans.{IsPlan, Plan, depth, occurrences, tree_of}
-use Rattle.ps_plan.specs.Refusals.{IsRefused, invalid_plan, two_inputs}
+use Rattle.ps_meaning.specs.PlanTrees.{depth, occurrences}
+use Rattle.ps_plan.specs.Plans.{IsPlan, Plan, tree_of}
+use Rattle.ps_meaning.specs.StepRefusals.{invalid_plan}
+use Rattle.ps_plan.specs.Refusals.{IsRefused, two_inputs}
 use Rattle.ps_survey.specs.Search.{NamedFirst, Once}
 use Rattle.ps_survey.specs.Surveys.{IsSurvey}
 use Rattle.ps_validate.specs.Fit.{IsCacheError}

@@ -1,16 +1,16 @@
 -- Scans, projections and distinct rows: which rules on names hold of them, and what is refused.
 use Rattle.std.proofs.Common.{◌≡◌, ◌≢◌, List, [], ◌∷◌, Bool, true, false, refl, sym, subst, ◌∙◌, ap, inl, inr}
 use Rattle.std.specs.Prelude.{IsTrue, Option, Some, None}
-use Rattle.pu_index.specs.declared.arena.Node.{Node}
+use Rattle.pu_base.specs.declared.arena.Node.{Node}
 use Rattle.ps_frame.specs.Frames.{has_distinct_names}
 use Rattle.ps_frame.specs.Functions.{Functions}
 use Rattle.ps_frame.specs.Tables.{Fields, Frame}
 use Rattle.ps_frame.specs.declared.refusal.PolarsError.{PolarsError}
 use Rattle.ps_frame.specs.declared.refusal.PolarsError.TheVariants as error
-use Rattle.ps_plan.specs.Refusals.{IsMissingColumn, IsRepeated, lacks_name, repeats}
-use Rattle.ps_plan.specs.Schemas.{named_fields}
-use Rattle.ps_plan.specs.Steps.{Cut, Name, Step, distinct, project, scan}
-use Rattle.ps_plan.specs.declared.ir.UniqueKeepStrategy.{UniqueKeepStrategy}
+use Rattle.ps_meaning.specs.StepRefusals.{IsMissingColumn, IsRepeated, lacks_name, repeats}
+use Rattle.ps_meaning.specs.Schemas.{named_fields}
+use Rattle.ps_meaning.specs.Steps.{Cut, Name, Step, distinct, project, scan}
+use Rattle.ps_meaning.specs.declared.options.UniqueKeepStrategy.{UniqueKeepStrategy}
 use Rattle.ps_validate.proofs.Naming.{named-lacks, named-names}
 use Rattle.ps_validate.proofs.Selecting.{differ}
 use Rattle.ps_validate.proofs.Typed.{Shown, gives-by, names-are, none-left}

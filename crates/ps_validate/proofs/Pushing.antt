@@ -3,15 +3,15 @@ use Rattle.std.proofs.Common.{◌≡◌, ℕ, zero, suc, ◌+◌, ◌<◌, List,
 use Rattle.std.specs.Prelude.{if◌then◌else◌, not, unwrap_or, Option, Some, None, option_map, slice_get, map}
 use Rattle.std.proofs.lemmas.List.{append-nil, map-append}
 use Rattle.std.proofs.Math.Seq.{drop-length}
-use Rattle.pu_index.specs.declared.arena.Node.{Node}
+use Rattle.pu_base.specs.declared.arena.Node.{Node}
 use Rattle.ps_frame.specs.Frames.{has_name}
 use Rattle.ps_frame.specs.Tables.{Fields, field_kind}
 use Rattle.ps_frame.specs.declared.refusal.PolarsError.{PolarsError}
 use Rattle.ps_frame.specs.declared.refusal.PolarsError.TheVariants as error
 use Rattle.ps_frame.specs.declared.value.DataType.{DataType}
-use Rattle.ps_plan.specs.Refusals.{repeats}
-use Rattle.ps_plan.specs.Schemas.{is_among, names_of, suffixed, without}
-use Rattle.ps_plan.specs.Steps.{Name}
+use Rattle.ps_meaning.specs.StepRefusals.{repeats}
+use Rattle.ps_meaning.specs.Schemas.{is_among, names_of, suffixed, without}
+use Rattle.ps_meaning.specs.Steps.{Name}
 use Rattle.ps_validate.proofs.Adding.{among-has, repeats-again}
 use Rattle.ps_validate.specs.Columns.{IsRepeatError, absent_from, with_kinds}
 use Rattle.ps_validate.specs.Fields.{IsPushError}

@@ -9,8 +9,8 @@ use Rattle.ps_frame.specs.Trees.{Tree}
 use Rattle.ps_frame.specs.Typing.{kind_over}
 use Rattle.ps_frame.specs.declared.value.DataType.{DataType}
 use Rattle.ps_frame.specs.declared.value.DataType.TheVariants as kind
-use Rattle.ps_plan.specs.Schemas.{both as both_of, fields_of}
-use Rattle.ps_plan.specs.Steps.{Named, filter, select}
+use Rattle.ps_meaning.specs.Schemas.{both as both_of, fields_of}
+use Rattle.ps_meaning.specs.Steps.{Named, filter, select}
 use Rattle.ps_validate.proofs.Selecting.{breaks-none, holds-none, lacks-none, names-same}
 use Rattle.ps_validate.proofs.Typed.{Shown, gives-by}
 use Rattle.ps_validate.specs.Nodes.{GivesSchema}

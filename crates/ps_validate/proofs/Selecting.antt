@@ -7,7 +7,7 @@ use Rattle.std.proofs.lemmas.Bool.{and_from, and_parts, or_cases, or_left}
 use Rattle.std.proofs.lemmas.List.Elements.{Contains-append_left}
 use Rattle.std.proofs.lemmas.List.Folds.{list_any-append}
 use Rattle.std.proofs.lemmas.Slice.Eq.{bytes_eq-Decides}
-use Rattle.pu_index.specs.declared.arena.Node.{Node}
+use Rattle.pu_base.specs.declared.arena.Node.{Node}
 use Rattle.ps_frame.specs.Frames.{has_distinct_names, has_name}
 use Rattle.ps_frame.specs.Functions.{Functions}
 use Rattle.ps_frame.specs.Parts.{is_column_of, reads_column, some_part, tree_parts}
@@ -21,9 +21,9 @@ use Rattle.ps_frame.specs.declared.refusal.PolarsError.{PolarsError}
 use Rattle.ps_frame.specs.declared.refusal.PolarsError.TheVariants as error
 use Rattle.ps_frame.specs.declared.value.DataType.{DataType}
 use Rattle.ps_frame.specs.declared.value.DataType.TheVariants as kind
-use Rattle.ps_plan.specs.Refusals.{Refusal, TypingRefused, break_rules, column_not_found, duplicate, invalid_plan, lacks_column, no_key, repeats, schema_mismatch, unsupported}
-use Rattle.ps_plan.specs.Schemas.{both as both_of, expr_names, fields_of, is_among, names_of, output_schema}
-use Rattle.ps_plan.specs.Steps.{Name, Named, exprs_of, filter, select}
+use Rattle.ps_meaning.specs.StepRefusals.{Refusal, TypingRefused, break_rules, column_not_found, duplicate, invalid_plan, lacks_column, no_key, repeats, schema_mismatch, unsupported}
+use Rattle.ps_meaning.specs.Schemas.{both as both_of, expr_names, fields_of, is_among, names_of, output_schema}
+use Rattle.ps_meaning.specs.Steps.{Name, Named, exprs_of, filter, select}
 use Rattle.ps_typing.proofs.Exact.{any-at, any-weaker, breaks-refused, none-refused, unknown-refused}
 use Rattle.ps_validate.proofs.Adding.{among-has}
 use Rattle.ps_typing.specs.Refused.{IsTypingError}

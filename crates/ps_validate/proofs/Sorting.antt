@@ -1,7 +1,7 @@
 -- Sorts by typed keys.
 use Rattle.std.proofs.Common.{◌≡◌, ◌≢◌, List, [], ◌∷◌, refl, inr}
 use Rattle.std.specs.Prelude.{IsTrue, Some, is_some, map}
-use Rattle.pu_index.specs.declared.arena.Node.{Node}
+use Rattle.pu_base.specs.declared.arena.Node.{Node}
 use Rattle.ps_frame.specs.Frames.{has_distinct_names}
 use Rattle.ps_frame.specs.Functions.{Functions}
 use Rattle.ps_frame.specs.Refusals.{is_accepted}
@@ -10,7 +10,7 @@ use Rattle.ps_frame.specs.Trees.{Tree}
 use Rattle.ps_frame.specs.Typing.{kind_over}
 use Rattle.ps_frame.specs.declared.refusal.PolarsError.{PolarsError}
 use Rattle.ps_frame.specs.declared.value.DataType.{DataType}
-use Rattle.ps_plan.specs.Steps.{SortStep, sort}
+use Rattle.ps_meaning.specs.Steps.{SortStep, sort}
 use Rattle.ps_typing.specs.Refused.{IsErrorAmong}
 use Rattle.ps_validate.proofs.Keying.{among-error, keys-break, keys-hold, keys-lack}
 use Rattle.ps_validate.proofs.Typed.{Shown, gives-by}

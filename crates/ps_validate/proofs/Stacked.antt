@@ -4,7 +4,7 @@ use Rattle.std.specs.Prelude.{Any, IsTrue, Option, Some, None, is_some, map, opt
 use Rattle.std.specs.List.{AllByRecursion}
 use Rattle.std.proofs.lemmas.List.{append-nil, length-map, map-append}
 use Rattle.std.proofs.Math.Seq.{drop-length}
-use Rattle.pu_index.specs.declared.arena.Node.{Node}
+use Rattle.pu_base.specs.declared.arena.Node.{Node}
 use Rattle.ps_frame.specs.Frames.{has_distinct_names}
 use Rattle.ps_frame.specs.Functions.{Functions}
 use Rattle.ps_frame.specs.Refusals.{is_accepted}
@@ -15,9 +15,9 @@ use Rattle.ps_frame.specs.declared.refusal.PolarsError.{PolarsError}
 use Rattle.ps_frame.specs.declared.refusal.PolarsError.TheVariants as error
 use Rattle.ps_frame.specs.declared.value.DataType.{DataType}
 use Rattle.ps_frame.specs.declared.value.DataType.TheVariants as kind
-use Rattle.ps_plan.specs.Refusals.{StepMismatch, break_rules, lacks_column, repeats}
-use Rattle.ps_plan.specs.Schemas.{expr_names, fields_of, first_schema, joined_schemas, names_of, output_schema, put_fields, schema_or_empty}
-use Rattle.ps_plan.specs.Steps.{Cut, Name, Named, exprs_of, hconcat, hstack, row_index, union, user}
+use Rattle.ps_meaning.specs.StepRefusals.{StepMismatch, break_rules, lacks_column, repeats}
+use Rattle.ps_meaning.specs.Schemas.{expr_names, fields_of, first_schema, joined_schemas, names_of, output_schema, put_fields, schema_or_empty}
+use Rattle.ps_meaning.specs.Steps.{Cut, Name, Named, exprs_of, hconcat, hstack, row_index, union, user}
 use Rattle.ps_validate.proofs.Grouping.{repeats-left}
 use Rattle.ps_validate.proofs.Keying.{among-error}
 use Rattle.ps_validate.proofs.Selecting.{breaks-none, differ, holds-none, lacks-none, names-same}

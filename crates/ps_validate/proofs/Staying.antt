@@ -2,7 +2,7 @@
 use Rattle.std.proofs.Common.{◌≡◌, ℕ, ◌<◌, ◌≤◌, List, [], ◌∷◌, ◌++◌, length, slice_get, Option, Some, None, refl, sym, subst, ◌∙◌, ap, arith, inl, inr, length-append}
 use Rattle.std.specs.Prelude.{Contains, ◌⊎◌, IsSomeAnd, map}
 use Rattle.std.specs.List.{AllByRecursion}
-use Rattle.pu_index.specs.declared.arena.Node.{Node}
+use Rattle.pu_base.specs.declared.arena.Node.{Node}
 use Rattle.ps_frame.specs.Functions.{Functions}
 use Rattle.ps_frame.specs.Trees.{IsComplete, tree_at}
 use Rattle.ps_frame.specs.declared.expr.AExpr.{AExpr}
@@ -11,14 +11,18 @@ use Rattle.ps_frame.specs.declared.expr.What.{What}
 use Rattle.ps_frame.specs.declared.expr.What.TheVariants as what
 use Rattle.ps_frame.specs.declared.refusal.Why.TheVariants as why
 use Rattle.ps_plan.specs.Graph.{Leads, Names, Path, Reached, exprs_at, here, inputs_at, named_by, onward, operands, operands_at}
-use Rattle.ps_plan.specs.Plans.{Plan, PlanTree, depth, occurrences, plan_at, tree_of}
-use Rattle.ps_plan.specs.Refusals.{GraphRefused, HasBadKeys, HasNegativeOffset, HasNoKey, HasUnsupported, IsClean, IsFileSink, IsLeftOut, IsMisshapen, IsPastLimits, IsRefused, IsSinkStep, IsValid, IsValidated, NamesMissingFunction, NeedsInput, Refusal, StepIs, TreeRefused, column_not_found, duplicate, expr_in_circle, expr_left_out, expr_missing, function_missing, in_circle, input_missing, invalid_plan, no_input, no_key, node_left_out, root_missing, schema_mismatch, sink_below, too_deep, too_large, two_inputs, unsupported}
-use Rattle.ps_plan.specs.Schemas.{output_schema, tree_schema}
-use Rattle.ps_plan.specs.Steps.{Step, entry_inputs, entry_step}
+use Rattle.ps_meaning.specs.PlanTrees.{PlanTree, depth, occurrences}
+use Rattle.ps_plan.specs.Plans.{Plan, plan_at, tree_of}
+use Rattle.ps_meaning.specs.StepRefusals.{HasBadKeys, HasNegativeOffset, HasNoKey, IsFileSink, IsSinkStep, IsValidated, NamesMissingFunction, NeedsInput, Refusal, column_not_found, duplicate, invalid_plan, no_key, schema_mismatch, unsupported}
+use Rattle.ps_plan.specs.Refusals.{GraphRefused, HasUnsupported, IsClean, IsLeftOut, IsMisshapen, IsPastLimits, IsRefused, IsValid, StepIs, TreeRefused, expr_in_circle, expr_left_out, expr_missing, function_missing, in_circle, input_missing, no_input, node_left_out, root_missing, sink_below, too_deep, too_large, two_inputs}
+use Rattle.ps_meaning.specs.Schemas.{output_schema, tree_schema}
+use Rattle.ps_meaning.specs.Steps.{Step}
+use Rattle.ps_plan.specs.Entries.{entry_inputs, entry_step}
 use Rattle.ps_plan.specs.declared.ir.IR.{IR}
 use Rattle.ps_plan.proofs.CleanPlans.{own-complete, reached-clean, reached-is}
 use Rattle.ps_plan.proofs.Complete.{there}
-use Rattle.ps_plan.proofs.ReachedSteps.{contains-first, contains-later, path-then}
+use Rattle.ps_meaning.proofs.Containing.{contains-first, contains-later}
+use Rattle.ps_plan.proofs.ReachedSteps.{path-then}
 use Rattle.ps_plan.proofs.ValidPlans.{in-range, no-circle, path-join, reached-complete}
 use Rattle.ps_survey.proofs.Lists.{slice_get-left}
 use Rattle.ps_walks.specs.Accepted.{schemas_at}

@@ -4,18 +4,19 @@ use Rattle.std.specs.Prelude.{Contains, ◌⊎◌, map}
 use Rattle.std.specs.List.{AllByRecursion}
 use Rattle.std.proofs.lemmas.List.{map-append}
 use Rattle.std.proofs.lemmas.List.Elements.{Contains-append_cases, Contains-append_left, Contains-append_right}
-use Rattle.pu_index.specs.declared.arena.Node.{Node}
+use Rattle.pu_base.specs.declared.arena.Node.{Node}
 use Rattle.ps_frame.specs.Parts.{tree_parts}
 use Rattle.ps_frame.specs.Trees.{IsComplete, Tree}
 use Rattle.ps_frame.specs.declared.expr.What.{What}
-use Rattle.ps_plan.specs.Steps.{entry_exprs, entry_step, expr_nodes, exprs_of, function_step, key_trees, left_out, named_trees, step_exprs}
-use Rattle.ps_plan.specs.declared.ir.ExprIR.{ExprIR}
-use Rattle.ps_plan.specs.declared.ir.FunctionIR.{FunctionIR}
-use Rattle.ps_plan.specs.declared.ir.FunctionIR.TheVariants as call
+use Rattle.ps_meaning.specs.Steps.{exprs_of, function_step, key_trees, left_out, named_trees, step_exprs}
+use Rattle.ps_plan.specs.Entries.{entry_exprs, entry_step, expr_nodes}
+use Rattle.ps_meaning.specs.declared.options.ExprIR.{ExprIR}
+use Rattle.ps_meaning.specs.declared.options.FunctionIR.{FunctionIR}
+use Rattle.ps_meaning.specs.declared.options.FunctionIR.TheVariants as call
 use Rattle.ps_plan.specs.declared.ir.IR.{IR}
 use Rattle.ps_plan.specs.declared.ir.IR.TheVariants as entry
 use Rattle.ps_plan.proofs.Complete.{numbers}
-use Rattle.ps_plan.proofs.ReachedSteps.{contains-later}
+use Rattle.ps_meaning.proofs.Containing.{contains-later}
 use Rattle.ps_validate.proofs.LeftOuts.{first-or-later, no-item}
 use Rattle.ps_validate.specs.Fields.{all_parts}
 

@@ -1,7 +1,7 @@
 -- When no rule on names or kinds refuses a step, and which errors stand for such a rule.
 use Rattle.std.proofs.Common.{◌≡◌, ◌≢◌, List, [], ◌∷◌, Bool, true, false, Ok, Err, Result, refl, sym, subst, ◌∙◌, ap, arith, inl, inr}
 use Rattle.std.specs.Prelude.{Contains, IfErr, IfOk, OnErr, OnOk, IsErrAnd, IsTrue, Option, Some, unwrap_or}
-use Rattle.pu_index.specs.declared.arena.Node.{Node}
+use Rattle.pu_base.specs.declared.arena.Node.{Node}
 use Rattle.ps_frame.specs.Frames.{has_distinct_names}
 use Rattle.ps_frame.specs.Functions.{Functions}
 use Rattle.ps_frame.specs.Tables.{Fields}
@@ -10,9 +10,9 @@ use Rattle.ps_frame.specs.declared.expr.What.{What}
 use Rattle.ps_frame.specs.declared.expr.What.TheVariants as what
 use Rattle.ps_frame.specs.declared.refusal.PolarsError.{PolarsError}
 use Rattle.ps_frame.specs.declared.refusal.PolarsError.TheVariants as error
-use Rattle.ps_plan.specs.Refusals.{HasLiteralAggregate, IsMissingColumn, IsRepeated, Refusal, StepMismatch, TypingRefused, break_rules, column_not_found, duplicate, invalid_plan, no_key, own_exprs, repeats, schema_mismatch, unsupported}
-use Rattle.ps_plan.specs.Schemas.{first_schema, names_of, output_names, output_schema}
-use Rattle.ps_plan.specs.Steps.{Name, Step}
+use Rattle.ps_meaning.specs.StepRefusals.{HasLiteralAggregate, IsMissingColumn, IsRepeated, Refusal, StepMismatch, TypingRefused, break_rules, column_not_found, duplicate, invalid_plan, no_key, own_exprs, repeats, schema_mismatch, unsupported}
+use Rattle.ps_meaning.specs.Schemas.{first_schema, names_of, output_names, output_schema}
+use Rattle.ps_meaning.specs.Steps.{Name, Step}
 use Rattle.ps_validate.proofs.Selecting.{differ}
 use Rattle.ps_validate.specs.Columns.{IsEmptyError, IsRepeatError}
 use Rattle.ps_validate.specs.Fields.{all_parts}

@@ -2,7 +2,7 @@
 use Rattle.std.proofs.Common.{◌≡◌, ◌≢◌, ℕ, List, [], ◌∷◌, length, refl, sym, subst, ◌∙◌, ap, inl, inr}
 use Rattle.std.specs.Prelude.{Contains, ◌⊎◌, IsSomeAnd, Option, Some, map, slice_get}
 use Rattle.std.specs.List.{AllByRecursion}
-use Rattle.pu_index.specs.declared.arena.Node.{Node}
+use Rattle.pu_base.specs.declared.arena.Node.{Node}
 use Rattle.ps_frame.specs.Functions.{Functions}
 use Rattle.ps_frame.specs.Parts.{tree_parts}
 use Rattle.ps_frame.specs.Trees.{IsComplete, Tree, tree_at}
@@ -15,13 +15,15 @@ use Rattle.ps_frame.specs.declared.refusal.PolarsError.{PolarsError}
 use Rattle.ps_frame.specs.declared.refusal.PolarsError.TheVariants as error
 use Rattle.ps_frame.specs.declared.refusal.Why.{Why}
 use Rattle.ps_frame.specs.declared.refusal.Why.TheVariants as why
-use Rattle.ps_plan.specs.Errors.{refusal_error}
+use Rattle.ps_meaning.specs.Errors.{refusal_error}
 use Rattle.ps_plan.specs.Graph.{Names, Path, Reached, exprs_at, inputs_at, named_by, operands_at}
-use Rattle.ps_plan.specs.Laws.{IsBuilt}
+use Rattle.ps_meaning.specs.Laws.{IsBuilt}
 use Rattle.ps_plan.specs.Plans.{Plan}
-use Rattle.ps_plan.specs.Refusals.{EntryIs, GraphRefused, HasBadKeys, HasNegativeOffset, HasNoKey, HasUnsupported, IsFileSink, IsLeftOut, IsMisshapen, IsPastLimits, IsSinkStep, IsValidated, NamesMissingFunction, NeedsInput, Refusal, StepIs, column_not_found, duplicate, expr_in_circle, expr_left_out, expr_missing, function_missing, in_circle, input_missing, invalid_plan, no_input, no_key, node_left_out, root_missing, schema_mismatch, sink_below, too_deep, too_large, two_inputs, unsupported}
-use Rattle.ps_plan.specs.Steps.{Step, entry_exprs, entry_inputs, entry_step, left_out, step_exprs}
-use Rattle.ps_plan.specs.declared.ir.FunctionIR.TheVariants as call
+use Rattle.ps_meaning.specs.StepRefusals.{HasBadKeys, HasNegativeOffset, HasNoKey, IsFileSink, IsSinkStep, IsValidated, NamesMissingFunction, NeedsInput, Refusal, column_not_found, duplicate, invalid_plan, no_key, schema_mismatch, unsupported}
+use Rattle.ps_plan.specs.Refusals.{EntryIs, GraphRefused, HasUnsupported, IsLeftOut, IsMisshapen, IsPastLimits, StepIs, expr_in_circle, expr_left_out, expr_missing, function_missing, in_circle, input_missing, no_input, node_left_out, root_missing, sink_below, too_deep, too_large, two_inputs}
+use Rattle.ps_meaning.specs.Steps.{Step, left_out, step_exprs}
+use Rattle.ps_plan.specs.Entries.{entry_exprs, entry_inputs, entry_step}
+use Rattle.ps_meaning.specs.declared.options.FunctionIR.TheVariants as call
 use Rattle.ps_plan.specs.declared.ir.IR.{IR}
 use Rattle.ps_plan.specs.declared.ir.IR.TheVariants as entry
 use Rattle.ps_survey.specs.Flaws.{Flaw, root_missing as root_flaw, input_missing as input_flaw, expr_missing as expr_flaw, in_circle as circle_flaw, expr_in_circle as expr_circle_flaw, too_deep as depth_flaw, too_large as size_flaw}

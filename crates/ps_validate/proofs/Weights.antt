@@ -3,15 +3,18 @@ use Rattle.std.proofs.Common.{◌≡◌, ◌≢◌, ℕ, zero, suc, ◌+◌, ◌
 use Rattle.std.specs.Prelude.{Contains, ◌⊎◌, Option, Some, None, map, sum_by}
 use Rattle.std.proofs.lemmas.List.Elements.{Contains-append_cases, Contains-append_left, Contains-append_right}
 use Rattle.std.proofs.lemmas.List.Sums.{sum_by-append, sum_by-cons}
-use Rattle.pu_index.specs.declared.arena.Node.{Node}
+use Rattle.pu_base.specs.declared.arena.Node.{Node}
 use Rattle.ps_frame.specs.Trees.{tree_at}
 use Rattle.ps_plan.specs.Graph.{Path, Reached, here, inputs_at, named_by, onward}
-use Rattle.ps_plan.specs.Plans.{Plan, PlanTree, PlanTrees, all_sizes, node, no_trees, occurrences, occurrences_of_all, plan_at, plan_trees_of, tree, tree_of}
-use Rattle.ps_plan.specs.Steps.{entry_inputs, entry_step, step_exprs}
+use Rattle.ps_meaning.specs.PlanTrees.{PlanTree, PlanTrees, all_sizes, node, no_trees, occurrences, occurrences_of_all, tree}
+use Rattle.ps_plan.specs.Plans.{Plan, plan_at, plan_trees_of, tree_of}
+use Rattle.ps_meaning.specs.Steps.{step_exprs}
+use Rattle.ps_plan.specs.Entries.{entry_inputs, entry_step}
 use Rattle.ps_plan.specs.declared.ir.IR.{IR}
 use Rattle.ps_plan.proofs.Acyclic.{each-acyclic}
 use Rattle.ps_plan.proofs.Complete.{numbers, there}
-use Rattle.ps_plan.proofs.ReachedSteps.{contains-first, contains-later, path-then}
+use Rattle.ps_meaning.proofs.Containing.{contains-first, contains-later}
+use Rattle.ps_plan.proofs.ReachedSteps.{path-then}
 use Rattle.ps_plan.proofs.Unfolding.{plan_at-is}
 use Rattle.ps_survey.specs.Search.{Once}
 use Rattle.ps_survey.specs.Surveys.{IsSurvey}

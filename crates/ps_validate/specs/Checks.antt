@@ -1,11 +1,11 @@
 -- What the check of a node tells: that nothing of it is refused, and its schema, or what it is refused for.
 use Rattle.std.specs.Prelude.{◌⊎◌, List}
-use Rattle.pu_index.specs.declared.arena.Node.{Node}
+use Rattle.pu_base.specs.declared.arena.Node.{Node}
 use Rattle.ps_frame.specs.Functions.{Functions}
 use Rattle.ps_frame.specs.Tables.{Fields}
 use Rattle.ps_frame.specs.declared.refusal.PolarsError.{PolarsError}
-use Rattle.ps_plan.specs.Refusals.{NamesMissingFunction}
-use Rattle.ps_plan.specs.Steps.{Step}
+use Rattle.ps_meaning.specs.StepRefusals.{NamesMissingFunction}
+use Rattle.ps_meaning.specs.Steps.{Step}
 use Rattle.ps_validate.specs.Fit.{IsEntryError, IsWellFormed, IsPlaceError, IsPlaced}
 use Rattle.ps_validate.specs.Nodes.{GivesSchema, IsNodeError}
 

@@ -1,14 +1,14 @@
 -- What is refused of columns that are looked up by name, or set beside others.
 use Rattle.std.specs.Prelude.{◌≡◌, List, [], ◌∷◌, unwrap_or, map, filter as kept, not, IsTrue, ⊤}
-use Rattle.pu_index.specs.declared.arena.Node.{Node}
+use Rattle.pu_base.specs.declared.arena.Node.{Node}
 use Rattle.ps_frame.specs.Frames.{has_name}
 use Rattle.ps_frame.specs.Tables.{Fields, field_kind}
 use Rattle.ps_frame.specs.declared.expr.What.TheVariants as what
 use Rattle.ps_frame.specs.declared.refusal.PolarsError.{PolarsError}
 use Rattle.ps_frame.specs.declared.refusal.PolarsError.TheVariants as error
 use Rattle.ps_frame.specs.declared.value.DataType.{DataType}
-use Rattle.ps_plan.specs.Refusals.{lacks_name, repeats}
-use Rattle.ps_plan.specs.Steps.{Name}
+use Rattle.ps_meaning.specs.StepRefusals.{lacks_name, repeats}
+use Rattle.ps_meaning.specs.Steps.{Name}
 
 -- an error at a node: a schema lacks one of these names, or one of them stands twice. Want of memory needs no cause.
 abbrev pub IsNamingError : Node → Fields → List Name → PolarsError → Type 0

@@ -1,6 +1,6 @@
 -- What the step of a node refuses by itself, whatever its inputs.
 use Rattle.std.specs.Prelude.{◌≡◌, ℕ, ⊤}
-use Rattle.pu_index.specs.declared.arena.Node.{Node}
+use Rattle.pu_base.specs.declared.arena.Node.{Node}
 use Rattle.ps_frame.specs.declared.expr.What.{What}
 use Rattle.ps_frame.specs.declared.expr.What.TheVariants as what
 use Rattle.ps_frame.specs.declared.refusal.Compute.{Compute}
@@ -9,8 +9,8 @@ use Rattle.ps_frame.specs.declared.refusal.PolarsError.{PolarsError}
 use Rattle.ps_frame.specs.declared.refusal.PolarsError.TheVariants as error
 use Rattle.ps_frame.specs.declared.refusal.Why.{Why}
 use Rattle.ps_frame.specs.declared.refusal.Why.TheVariants as why
-use Rattle.ps_plan.specs.Refusals.{HasBadKeys, HasNegativeOffset, HasNoKey, IsFileSink, IsValidated}
-use Rattle.ps_plan.specs.Steps.{Step}
+use Rattle.ps_meaning.specs.StepRefusals.{HasBadKeys, HasNegativeOffset, HasNoKey, IsFileSink, IsValidated}
+use Rattle.ps_meaning.specs.Steps.{Step}
 
 -- what isn't supported of a step
 abbrev pub IsUnsupportedStep : Step → What → Type 0

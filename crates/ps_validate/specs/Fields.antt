@@ -1,6 +1,6 @@
 -- The fields that named expressions give, and what is refused of them.
 use Rattle.std.specs.Prelude.{Bool, not, ◌≡◌, List, [], ◌∷◌, ◌++◌, IsTrue, ⊤}
-use Rattle.pu_index.specs.declared.arena.Node.{Node}
+use Rattle.pu_base.specs.declared.arena.Node.{Node}
 use Rattle.ps_frame.specs.Frames.{has_name}
 use Rattle.ps_frame.specs.Parts.{tree_parts}
 use Rattle.ps_frame.specs.Tables.{Fields}
@@ -8,9 +8,9 @@ use Rattle.ps_frame.specs.Trees.{Tree}
 use Rattle.ps_frame.specs.Typing.{is_scalar}
 use Rattle.ps_frame.specs.declared.refusal.PolarsError.{PolarsError}
 use Rattle.ps_frame.specs.declared.refusal.PolarsError.TheVariants as error
-use Rattle.ps_plan.specs.Refusals.{repeats}
-use Rattle.ps_plan.specs.Schemas.{expr_names}
-use Rattle.ps_plan.specs.Steps.{Name, Named, exprs_of}
+use Rattle.ps_meaning.specs.StepRefusals.{repeats}
+use Rattle.ps_meaning.specs.Schemas.{expr_names}
+use Rattle.ps_meaning.specs.Steps.{Name, Named, exprs_of}
 use Rattle.ps_typing.specs.Refused.{IsErrorAmong}
 
 -- the parts of expressions

@@ -1,13 +1,14 @@
 -- What a node is refused for by its entry, its place in the plan and its cache id, whatever its inputs give.
 use Rattle.std.specs.Prelude.{◌≡◌, ◌≢◌, ◌⊎◌, ℕ, List, [], Contains, IsSomeAnd, slice_get, ⊤}
-use Rattle.pu_index.specs.declared.arena.Node.{Node}
+use Rattle.pu_base.specs.declared.arena.Node.{Node}
 use Rattle.ps_frame.specs.declared.expr.What.TheVariants as what
 use Rattle.ps_frame.specs.declared.refusal.PolarsError.{PolarsError}
 use Rattle.ps_frame.specs.declared.refusal.PolarsError.TheVariants as error
 use Rattle.ps_frame.specs.declared.refusal.Why.TheVariants as why
-use Rattle.ps_plan.specs.Laws.{IsBuilt}
-use Rattle.ps_plan.specs.Refusals.{HasBadKeys, HasNegativeOffset, HasNoKey, IsCacheOver, IsFileSink, IsSinkStep, IsValidated, NamesMissingFunction, NeedsInput}
-use Rattle.ps_plan.specs.Steps.{Step, left_out}
+use Rattle.ps_meaning.specs.Laws.{IsBuilt}
+use Rattle.ps_meaning.specs.StepRefusals.{HasBadKeys, HasNegativeOffset, HasNoKey, IsFileSink, IsSinkStep, IsValidated, NamesMissingFunction, NeedsInput}
+use Rattle.ps_plan.specs.Refusals.{IsCacheOver}
+use Rattle.ps_meaning.specs.Steps.{Step, left_out}
 use Rattle.ps_plan.specs.declared.ir.IR.{IR}
 use Rattle.ps_validate.specs.Entries.{IsStepError, IsUnsupportedStep}
 

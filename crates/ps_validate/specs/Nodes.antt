@@ -1,15 +1,15 @@
 -- The schema that a node gives over inputs of known schemas, and what it is refused for.
 use Rattle.std.specs.Prelude.{◌≡◌, List, Contains, Some, ◌⊎◌, ⊤}
-use Rattle.pu_index.specs.declared.arena.Node.{Node}
+use Rattle.pu_base.specs.declared.arena.Node.{Node}
 use Rattle.ps_frame.specs.Functions.{Functions}
 use Rattle.ps_frame.specs.Tables.{Fields}
 use Rattle.ps_frame.specs.Trees.{Tree}
 use Rattle.ps_frame.specs.declared.expr.What.{What}
 use Rattle.ps_frame.specs.declared.refusal.PolarsError.{PolarsError}
 use Rattle.ps_frame.specs.declared.refusal.PolarsError.TheVariants as error
-use Rattle.ps_plan.specs.Refusals.{Refusal, TypingRefused, column_not_found, duplicate, schema_mismatch, unsupported}
-use Rattle.ps_plan.specs.Schemas.{output_schema}
-use Rattle.ps_plan.specs.Steps.{Step, cache, sink, slice, step_exprs}
+use Rattle.ps_meaning.specs.StepRefusals.{Refusal, TypingRefused, column_not_found, duplicate, schema_mismatch, unsupported}
+use Rattle.ps_meaning.specs.Schemas.{output_schema}
+use Rattle.ps_meaning.specs.Steps.{Step, cache, sink, slice, step_exprs}
 use Rattle.ps_validate.specs.Fields.{all_parts}
 
 -- a part of one of the step's expressions is left out

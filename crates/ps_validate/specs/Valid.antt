@@ -1,15 +1,16 @@
 -- Valid plans with the schemas of their nodes.
 use Rattle.std.specs.Prelude.{◌≡◌, ◌⊎◌, ℕ, List, Some, slice_get}
-use Rattle.pu_index.specs.declared.arena.Node.{Node}
+use Rattle.pu_base.specs.declared.arena.Node.{Node}
 use Rattle.ps_frame.specs.Functions.{Functions}
 use Rattle.ps_frame.specs.declared.expr.AExpr.{AExpr}
 use Rattle.ps_frame.specs.declared.refusal.PolarsError.{PolarsError}
 use Rattle.ps_frame.specs.declared.refusal.PolarsError.TheVariants as error
-use Rattle.ps_plan.specs.Errors.{refusal_error}
+use Rattle.ps_meaning.specs.Errors.{refusal_error}
 use Rattle.ps_plan.specs.Graph.{Reached}
 use Rattle.ps_plan.specs.Plans.{Plan, tree_of}
-use Rattle.ps_plan.specs.Refusals.{IsRefused, IsValid, Refusal}
-use Rattle.ps_plan.specs.Schemas.{tree_schema}
+use Rattle.ps_meaning.specs.StepRefusals.{Refusal}
+use Rattle.ps_plan.specs.Refusals.{IsRefused, IsValid}
+use Rattle.ps_meaning.specs.Schemas.{tree_schema}
 use Rattle.ps_plan.specs.declared.ir.IR.{IR}
 use Rattle.ps_walks.specs.Fit.{HasSchemas}
 use Rattle.ps_validate.specs.Known.{Known}

@@ -6,8 +6,7 @@ ghost use Rattle.ps_validate.specs.Fit.{HaveOneInput, IsCacheError};
 
 use ps_frame::refusal::{PolarsError, PolarsResult, Why};
 use ps_plan::ir::IR;
-use pu_index::{Arena, Node};
-use pu_order::Steps;
+use pu_base::{Arena, Node, Steps};
 use std::alloc::{AllocError, Global};
 use std::collections::HashMap;
 use std::sync::ledger::Ledger;

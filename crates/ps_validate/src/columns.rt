@@ -2,8 +2,8 @@
 ghost use Rattle.std.specs.Prelude.{◌≡◌, ◌≢◌, ◌++◌, ◌∷◌, ◌⊎◌, [], Err, IfErr, IfOk, List, OnErr, OnOk, Some};
 ghost use Rattle.std.specs.HashSet.{contains_text};
 ghost use Rattle.ps_frame.specs.Tables.{field_kind};
-ghost use Rattle.ps_plan.specs.Schemas.{is_among, named_fields, names_of, suffixed, without};
-ghost use Rattle.ps_plan.specs.Steps.{Name};
+ghost use Rattle.ps_meaning.specs.Schemas.{is_among, named_fields, names_of, suffixed, without};
+ghost use Rattle.ps_meaning.specs.Steps.{Name};
 ghost use Rattle.ps_validate.specs.Columns.{IsEmptyError, IsNamingError, IsRepeatError, absent_from, with_kinds};
 ghost use Rattle.ps_validate.specs.Fields.{IsPushError};
 
@@ -12,8 +12,7 @@ use ps_frame::expr::What;
 use ps_frame::refusal::{PolarsError, PolarsResult};
 use ps_frame::schema::Schema;
 use ps_frame::value::DataType;
-use pu_index::Node;
-use pu_order::PlSmallStr;
+use pu_base::{Node, PlSmallStr};
 use std::alloc::Global;
 use std::collections::HashSet;
 

@@ -1,19 +1,19 @@
 // What the entry of a node refuses by itself: keys and flags that don't fit, no key, an offset below 0, and what isn't
 // supported of a join or a sink.
 ghost use Rattle.std.specs.Prelude.{◌≡◌, ◌≢◌, ◌↔◌, Bool, List, [], IfErr, IsFalse, IsTrue, OnOk, length};
-ghost use Rattle.pu_index.specs.declared.arena.Node.{Node};
+ghost use Rattle.pu_base.specs.declared.arena.Node.{Node};
 ghost use Rattle.ps_frame.specs.Trees.{Tree};
-ghost use Rattle.ps_plan.specs.Refusals.{FlagsMisfit, HasNegativeCut, HasNoKey, IsFileSink, IsNegative, IsValidation, KeysMisfit};
-ghost use Rattle.ps_plan.specs.Steps.{distinct_step, group_step, key_trees, join as join_step, sink as sink_step, slice as slice_step, sort_step, union as union_step};
-ghost use Rattle.ps_plan.specs.declared.ir.ExprIR.{ExprIR};
+ghost use Rattle.ps_meaning.specs.StepRefusals.{FlagsMisfit, HasNegativeCut, HasNoKey, IsFileSink, IsNegative, IsValidation, KeysMisfit};
+ghost use Rattle.ps_meaning.specs.Steps.{distinct_step, group_step, key_trees, join as join_step, sink as sink_step, slice as slice_step, sort_step, union as union_step};
+ghost use Rattle.ps_meaning.specs.declared.options.ExprIR.{ExprIR};
 ghost use Rattle.ps_validate.specs.Entries.{IsStepError};
 
 use ps_frame::expr::What;
 use ps_frame::refusal::{Compute, PolarsError, PolarsResult, Why};
-use ps_plan::ir::{
+use ps_meaning::options::{
     DistinctOptions, ExprIR, JoinArgs, JoinType, JoinValidation, SinkType, SortMultipleOptions,
 };
-use pu_index::Node;
+use pu_base::Node;
 
 // Whether an offset is below 0.
 fn is_negative(offset: i64) -> bool

@@ -3,9 +3,9 @@ ghost use Rattle.std.specs.Prelude.{◌≡◌, ◌++◌, ◌∷◌, ◌≤◌, �
 ghost use Rattle.std.specs.List.{AllByRecursion, list_any};
 ghost use Rattle.ps_frame.specs.Frames.{has_distinct_names, has_name};
 ghost use Rattle.ps_frame.specs.Trees.{IsComplete, tree_at};
-ghost use Rattle.ps_plan.specs.Plans.{all_sizes};
-ghost use Rattle.ps_plan.specs.Schemas.{fields_of, names_of};
-ghost use Rattle.ps_plan.specs.Steps.{exprs_of, name_in, named_trees};
+ghost use Rattle.ps_meaning.specs.PlanTrees.{all_sizes};
+ghost use Rattle.ps_meaning.specs.Schemas.{fields_of, names_of};
+ghost use Rattle.ps_meaning.specs.Steps.{exprs_of, name_in, named_trees};
 ghost use Rattle.ps_validate.specs.Fields.{IsFieldError, IsPushError, not_scalar};
 
 use ps_frame::error::FrameError;
@@ -13,10 +13,9 @@ use ps_frame::expr::AExpr;
 use ps_frame::refusal::{PolarsError, PolarsResult};
 use ps_frame::schema::Schema;
 use ps_frame::value::DataType;
-use ps_plan::ir::{ExprIR, OutputName};
+use ps_meaning::options::{ExprIR, OutputName};
 use ps_typing::kinds::type_expr;
-use pu_index::{Arena, Node};
-use pu_order::{PlSmallStr, Steps};
+use pu_base::{Arena, Node, PlSmallStr, Steps};
 use std::alloc::Global;
 use std::sync::ledger::Ledger;
 

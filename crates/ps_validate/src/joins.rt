@@ -3,9 +3,9 @@ ghost use Rattle.std.specs.Prelude.{◌≡◌, ◌≤◌, ◌+◌, ◌∷◌, �
 ghost use Rattle.std.specs.List.{AllByRecursion};
 ghost use Rattle.ps_frame.specs.Functions.{Functions};
 ghost use Rattle.ps_frame.specs.Trees.{IsComplete, tree_at};
-ghost use Rattle.ps_plan.specs.Plans.{all_sizes};
-ghost use Rattle.ps_plan.specs.Schemas.{bare_names, left_part, right_part, without};
-ghost use Rattle.ps_plan.specs.Steps.{JoinStep, join as join_step, key_trees};
+ghost use Rattle.ps_meaning.specs.PlanTrees.{all_sizes};
+ghost use Rattle.ps_meaning.specs.Schemas.{bare_names, left_part, right_part, without};
+ghost use Rattle.ps_meaning.specs.Steps.{JoinStep, join as join_step, key_trees};
 ghost use Rattle.ps_validate.specs.Nodes.{GivesSchema, IsNodeError};
 
 use crate::columns::{push_suffixed, push_without, some_columns};
@@ -14,9 +14,8 @@ use ps_frame::expr::AExpr;
 use ps_frame::laws::kinds_are_exact;
 use ps_frame::refusal::{PolarsError, PolarsResult};
 use ps_frame::schema::Schema;
-use ps_plan::ir::{ExprIR, JoinArgs, JoinType};
-use pu_index::{Arena, Node};
-use pu_order::Steps;
+use ps_meaning::options::{ExprIR, JoinArgs, JoinType};
+use pu_base::{Arena, Node, Steps};
 use std::alloc::Global;
 use std::sync::ledger::Ledger;
 
@@ -53,6 +52,7 @@ fn without_keys(
     ensures columns { IfOk result (λ s. s ≡ without (bare_names (key_trees (tree_at arena.now.items) keys.now)) schema.now) }
     ensures memory { OnErr result (result ≡ Err PolarsError.OutOfMemory) }
 {
+    // A law: no name stands twice in the schema, so none is refused below.
     schema.names_differ();
     let names = column_names(alloc, keys, arena)?;
     let mut columns = Schema::new(alloc);
@@ -124,6 +124,7 @@ pub fn join_schema<L: Ledger>(
     ensures refused { IfErr result (λ e. (F : Functions) → IsNodeError F at (join_step (record { left_on = key_trees (tree_at arena.now.items) left_on.now; right_on = key_trees (tree_at arena.now.items) right_on.now; args = args.now })) (left.now ∷ right.now ∷ []) e) }
     ensures steps { steps.new ≤ steps.old + (all_sizes (key_trees (tree_at arena.now.items) left_on.now) + all_sizes (key_trees (tree_at arena.now.items) right_on.now)) }
 {
+    // A law: an expression has a kind exactly where no rule on kinds refuses it.
     kinds_are_exact();
     let left_kinds = key_kinds(alloc, at, left_on, arena, left, steps)?;
     let right_kinds = key_kinds(alloc, at, right_on, arena, right, steps)?;
@@ -134,6 +135,7 @@ pub fn join_schema<L: Ledger>(
     let added = right_columns(alloc, at, args.how, right_on, arena, right)?;
     let taken = cloned(alloc, &schema)?;
     push_suffixed(alloc, at, &mut schema, &added, &taken, suffix(args))?;
+    // A law: no name stands twice in it, so no rule on names refuses the step.
     schema.names_differ();
     some_columns(at, schema)
 }

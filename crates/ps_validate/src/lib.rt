@@ -10,11 +10,9 @@ pub mod joins;
 pub mod keys;
 pub mod laws;
 pub mod nodes;
-pub mod places;
+pub mod positions;
 pub mod projections;
 pub mod schemas;
 pub mod stacks;
 pub mod table;
-#[cfg(test)]
-mod tests;
 pub mod validate;

@@ -2,8 +2,9 @@
 ghost use Rattle.std.specs.Prelude.{◌≤◌, ◌+◌, ◌*◌, IfErr, IfOk};
 ghost use Rattle.std.specs.List.{AllByRecursion};
 ghost use Rattle.ps_frame.specs.Trees.{IsComplete, tree_at};
-ghost use Rattle.ps_plan.specs.Plans.{all_sizes};
-ghost use Rattle.ps_plan.specs.Steps.{entry_inputs, entry_step, step_exprs};
+ghost use Rattle.ps_meaning.specs.PlanTrees.{all_sizes};
+ghost use Rattle.ps_meaning.specs.Steps.{step_exprs};
+ghost use Rattle.ps_plan.specs.Entries.{entry_inputs, entry_step};
 ghost use Rattle.ps_validate.specs.Checks.{IsCheckError, IsChecked};
 ghost use Rattle.ps_validate.specs.Fit.{IsWellFormed};
 ghost use Rattle.ps_validate.specs.Known.{AreKnown, schemas_in};
@@ -11,7 +12,7 @@ ghost use Rattle.ps_validate.specs.Nodes.{GivesSchema, IsNodeError};
 
 use crate::functions::function_schema;
 use crate::joins::join_schema;
-use crate::places::{check_entry, check_place};
+use crate::positions::{check_entry, check_place};
 use crate::projections::{
     distinct_schema, named_distinct_schema, named_scan_schema, project_schema, scan_schema,
 };
@@ -22,9 +23,9 @@ use ps_frame::expr::AExpr;
 use ps_frame::functions::Functions;
 use ps_frame::refusal::PolarsResult;
 use ps_frame::schema::Schema;
-use ps_plan::ir::{FunctionIR, IR};
-use pu_index::{Arena, Node};
-use pu_order::Steps;
+use ps_meaning::options::FunctionIR;
+use ps_plan::ir::IR;
+use pu_base::{Arena, Node, Steps};
 use std::alloc::Global;
 use std::sync::ledger::Ledger;
 
@@ -38,11 +39,11 @@ fn node_schema<F: Functions, L: Ledger>(
     schemas: &Schemas,
     steps: &mut Steps<L>,
 ) -> PolarsResult<Schema>
-    requires fit { IsWellFormed (F.counted functions.now) (entry_step (tree_at exprs.now.items) entry.now) (entry_inputs entry.now) }
+    requires fit { IsWellFormed (F.told functions.now).count (entry_step (tree_at exprs.now.items) entry.now) (entry_inputs entry.now) }
     requires complete { AllByRecursion IsComplete (step_exprs (entry_step (tree_at exprs.now.items) entry.now)) }
     requires known { AreKnown schemas.now (entry_inputs entry.now) }
-    ensures given { IfOk result (λ s. GivesSchema (record { count = F.counted functions.now; streams = F.streams; answer = F.answer; declared = F.declared }) (entry_step (tree_at exprs.now.items) entry.now) (schemas_in schemas.now (entry_inputs entry.now)) s) }
-    ensures refused { IfErr result (λ e. IsNodeError (record { count = F.counted functions.now; streams = F.streams; answer = F.answer; declared = F.declared }) at (entry_step (tree_at exprs.now.items) entry.now) (schemas_in schemas.now (entry_inputs entry.now)) e) }
+    ensures given { IfOk result (λ s. GivesSchema (F.told functions.now) (entry_step (tree_at exprs.now.items) entry.now) (schemas_in schemas.now (entry_inputs entry.now)) s) }
+    ensures refused { IfErr result (λ e. IsNodeError (F.told functions.now) at (entry_step (tree_at exprs.now.items) entry.now) (schemas_in schemas.now (entry_inputs entry.now)) e) }
     ensures steps { steps.new ≤ steps.old + 2 * all_sizes (step_exprs (entry_step (tree_at exprs.now.items) entry.now)) }
 {
     match entry {
@@ -160,8 +161,8 @@ pub fn check_node<F: Functions, L: Ledger>(
 ) -> PolarsResult<Schema>
     requires complete { AllByRecursion IsComplete (step_exprs (entry_step (tree_at exprs.now.items) entry.now)) }
     requires known { AreKnown schemas.now (entry_inputs entry.now) }
-    ensures checked { IfOk result (λ s. IsChecked (record { count = F.counted functions.now; streams = F.streams; answer = F.answer; declared = F.declared }) root at (entry_step (tree_at exprs.now.items) entry.now) (entry_inputs entry.now) (schemas_in schemas.now (entry_inputs entry.now)) s) }
-    ensures refused { IfErr result (λ e. IsCheckError (record { count = F.counted functions.now; streams = F.streams; answer = F.answer; declared = F.declared }) root at (entry_step (tree_at exprs.now.items) entry.now) (entry_inputs entry.now) (schemas_in schemas.now (entry_inputs entry.now)) e) }
+    ensures checked { IfOk result (λ s. IsChecked (F.told functions.now) root at (entry_step (tree_at exprs.now.items) entry.now) (entry_inputs entry.now) (schemas_in schemas.now (entry_inputs entry.now)) s) }
+    ensures refused { IfErr result (λ e. IsCheckError (F.told functions.now) root at (entry_step (tree_at exprs.now.items) entry.now) (entry_inputs entry.now) (schemas_in schemas.now (entry_inputs entry.now)) e) }
     ensures steps { steps.new ≤ steps.old + 2 * all_sizes (step_exprs (entry_step (tree_at exprs.now.items) entry.now)) }
 {
     check_place(root, at, entry)?;

@@ -2,16 +2,15 @@
 ghost use Rattle.std.specs.Prelude.{◌≡◌, ◌∷◌, Bool, IfErr, IfOk, List, None, OnOk, Some, []};
 ghost use Rattle.ps_frame.specs.Functions.{Functions};
 ghost use Rattle.ps_frame.specs.Tables.{Fields};
-ghost use Rattle.ps_plan.specs.Steps.{Cut, distinct as distinct_step, project as project_step, scan as scan_step};
-ghost use Rattle.ps_plan.specs.declared.ir.UniqueKeepStrategy.{UniqueKeepStrategy};
+ghost use Rattle.ps_meaning.specs.Steps.{Cut, distinct as distinct_step, project as project_step, scan as scan_step};
+ghost use Rattle.ps_meaning.specs.declared.options.UniqueKeepStrategy.{UniqueKeepStrategy};
 ghost use Rattle.ps_validate.specs.Nodes.{GivesSchema, IsNodeError};
 
 use crate::columns::{named_columns, shared_columns, some_columns};
 use ps_frame::frame::DataFrame;
 use ps_frame::refusal::PolarsResult;
 use ps_frame::schema::Schema;
-use pu_index::Node;
-use pu_order::PlSmallStr;
+use pu_base::{Node, PlSmallStr};
 use std::alloc::Global;
 
 /// The schema of a scan of all columns: that of the table, which is shared.
@@ -20,6 +19,7 @@ pub fn scan_schema(alloc: Global, at: Node, df: &DataFrame) -> PolarsResult<Sche
     ensures refused { IfErr result (λ e. (F : Functions) → IsNodeError F at (scan_step df.now None) [] e) }
 {
     let schema = df.schema();
+    // A law: no name stands twice in it, so no rule on names refuses the step.
     schema.names_differ();
     shared_columns(alloc, at, schema)
 }
@@ -35,6 +35,7 @@ pub fn named_scan_schema(
     ensures refused { IfErr result (λ e. (F : Functions) → IsNodeError F at (scan_step df.now (Some names.now)) [] e) }
 {
     let schema = named_columns(alloc, at, names, df.schema())?;
+    // A law: no name stands twice in it, so no rule on names refuses the step.
     schema.names_differ();
     some_columns(at, schema)
 }
@@ -50,6 +51,7 @@ pub fn project_schema(
     ensures refused { IfErr result (λ e. (F : Functions) → IsNodeError F at (project_step names.now) (input.now ∷ []) e) }
 {
     let schema = named_columns(alloc, at, names, input)?;
+    // A law: no name stands twice in it, so no rule on names refuses the step.
     schema.names_differ();
     some_columns(at, schema)
 }
@@ -59,6 +61,7 @@ pub fn distinct_schema(alloc: Global, at: Node, input: &Schema) -> PolarsResult<
     ensures given { IfOk result (λ s. (F : Functions) (maintain : Bool) (keep : UniqueKeepStrategy) (cut : Cut) → GivesSchema F (distinct_step (record { subset = None; maintain_order = maintain; keep = keep; cut = cut })) (input.now ∷ []) s) }
     ensures refused { IfErr result (λ e. (F : Functions) (maintain : Bool) (keep : UniqueKeepStrategy) (cut : Cut) → IsNodeError F at (distinct_step (record { subset = None; maintain_order = maintain; keep = keep; cut = cut })) (input.now ∷ []) e) }
 {
+    // A law: no name stands twice in it, so no rule on names refuses the step.
     input.names_differ();
     shared_columns(alloc, at, input)
 }
@@ -74,6 +77,7 @@ pub fn named_distinct_schema(
     ensures refused { IfErr result (λ e. (F : Functions) (maintain : Bool) (keep : UniqueKeepStrategy) (cut : Cut) → IsNodeError F at (distinct_step (record { subset = Some names.now; maintain_order = maintain; keep = keep; cut = cut })) (input.now ∷ []) e) }
 {
     let columns = named_columns(alloc, at, names, input)?;
+    // A law: no name stands twice in either, so no rule on names refuses the step.
     columns.names_differ();
     input.names_differ();
     shared_columns(alloc, at, input)

@@ -8,8 +8,8 @@ ghost use Rattle.std.specs.List.{AllByRecursion, list_any};
 ghost use Rattle.ps_frame.specs.Functions.{Functions};
 ghost use Rattle.ps_frame.specs.Parts.{is_literal_aggregate, some_part};
 ghost use Rattle.ps_frame.specs.Trees.{IsComplete, IsExpression, tree_at, tree_size};
-ghost use Rattle.ps_plan.specs.Plans.{all_sizes};
-ghost use Rattle.ps_plan.specs.Steps.{Cut, Step, exprs_of, filter as filter_step, group_step, key_trees, named_trees, select as select_step, sort as sort_step};
+ghost use Rattle.ps_meaning.specs.PlanTrees.{all_sizes};
+ghost use Rattle.ps_meaning.specs.Steps.{Cut, Step, exprs_of, filter as filter_step, group_step, key_trees, named_trees, select as select_step, sort as sort_step};
 ghost use Rattle.ps_validate.specs.Nodes.{GivesSchema, IsNodeError, PassesColumns};
 
 use crate::columns::{shared_columns, some_columns};
@@ -20,11 +20,10 @@ use ps_frame::laws::kinds_are_exact;
 use ps_frame::refusal::{PolarsError, PolarsResult};
 use ps_frame::schema::Schema;
 use ps_frame::value::DataType;
-use ps_plan::ir::ExprIR;
+use ps_meaning::options::ExprIR;
 use ps_typing::kinds::type_expr;
 use ps_typing::nature::independence_of;
-use pu_index::{Arena, Node};
-use pu_order::Steps;
+use pu_base::{Arena, Node, Steps};
 use std::alloc::Global;
 use std::sync::ledger::Ledger;
 
@@ -42,9 +41,11 @@ pub fn select_schema<L: Ledger>(
     ensures refused { IfErr result (λ e. (F : Functions) → IsNodeError F at (select_step (named_trees (tree_at arena.now.items) exprs.now)) (input.now ∷ []) e) }
     ensures steps { steps.new ≤ steps.old + all_sizes (exprs_of (named_trees (tree_at arena.now.items) exprs.now)) }
 {
+    // A law: an expression has a kind exactly where no rule on kinds refuses it.
     kinds_are_exact();
     let mut schema = Schema::new(alloc);
     push_typed(alloc, at, exprs, arena, input, &mut schema, steps)?;
+    // A law: no name stands twice in it, so no rule on names refuses the step.
     schema.names_differ();
     some_columns(at, schema)
 }
@@ -63,11 +64,13 @@ pub fn filter_schema<L: Ledger>(
     ensures refused { IfErr result (λ e. (F : Functions) → IsNodeError F at (filter_step (tree_at arena.now.items predicate.now.node)) (input.now ∷ []) e) }
     ensures steps { steps.new ≤ steps.old + tree_size (tree_at arena.now.items predicate.now.node) }
 {
+    // A law: an expression has a kind exactly where no rule on kinds refuses it.
     kinds_are_exact();
     let typed = type_expr(alloc, at, predicate.node, arena, input, steps)?;
     if typed.dtype != DataType::Boolean {
         return Err(PolarsError::SchemaMismatch { node: at });
     }
+    // A law: no name stands twice in it, so no rule on names refuses the step.
     input.names_differ();
     shared_columns(alloc, at, input)
 }
@@ -86,8 +89,10 @@ pub fn sort_schema<L: Ledger>(
     ensures refused { IfErr result (λ e. (F : Functions) (descending nulls_last : List Bool) (cut : Cut) → IsNodeError F at (sort_step (record { keys = key_trees (tree_at arena.now.items) keys.now; descending = descending; nulls_last = nulls_last; cut = cut })) (input.now ∷ []) e) }
     ensures steps { steps.new ≤ steps.old + all_sizes (key_trees (tree_at arena.now.items) keys.now) }
 {
+    // A law: an expression has a kind exactly where no rule on kinds refuses it.
     kinds_are_exact();
     key_kinds(alloc, at, keys, arena, input, steps)?;
+    // A law: no name stands twice in it, so no rule on names refuses the step.
     input.names_differ();
     shared_columns(alloc, at, input)
 }
@@ -133,6 +138,7 @@ pub fn group_by_schema<L: Ledger>(
     ensures refused { IfErr result (λ e. (F : Functions) (maintain : Bool) (cut : Cut) → IsNodeError F at (group_step (tree_at arena.now.items) keys.now aggs.now maintain cut) (input.now ∷ []) e) }
     ensures steps { steps.new ≤ steps.old + all_sizes (exprs_of (named_trees (tree_at arena.now.items) keys.now)) + 2 * all_sizes (exprs_of (named_trees (tree_at arena.now.items) aggs.now)) }
 {
+    // A law: an expression has a kind exactly where no rule on kinds refuses it.
     kinds_are_exact();
     let mut schema = Schema::new(alloc);
     push_typed(alloc, at, keys, arena, input, &mut schema, steps)?;
@@ -141,6 +147,7 @@ pub fn group_by_schema<L: Ledger>(
         return Err(PolarsError::SchemaMismatch { node: at });
     }
     check_aggregates(at, aggs, arena, steps)?;
+    // A law: no name stands twice in it, so no rule on names refuses the step.
     schema.names_differ();
     some_columns(at, schema)
 }
@@ -150,6 +157,7 @@ pub fn passed_schema(alloc: Global, at: Node, input: &Schema) -> PolarsResult<Sc
     ensures given { IfOk result (λ s. (F : Functions) (step : Step) → PassesColumns step → GivesSchema F step (input.now ∷ []) s) }
     ensures refused { IfErr result (λ e. (F : Functions) (step : Step) → PassesColumns step → IsNodeError F at step (input.now ∷ []) e) }
 {
+    // A law: no name stands twice in it, so no rule on names refuses the step.
     input.names_differ();
     shared_columns(alloc, at, input)
 }

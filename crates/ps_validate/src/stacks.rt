@@ -3,8 +3,8 @@ ghost use Rattle.std.specs.Prelude.{◌≡◌, ◌≢◌, ◌≤◌, ◌+◌, �
 ghost use Rattle.std.specs.List.{AllByRecursion};
 ghost use Rattle.ps_frame.specs.Functions.{Functions};
 ghost use Rattle.ps_frame.specs.Trees.{IsComplete, tree_at};
-ghost use Rattle.ps_plan.specs.Plans.{all_sizes};
-ghost use Rattle.ps_plan.specs.Steps.{Cut, exprs_of, hconcat as hconcat_step, hstack as hstack_step, named_trees, row_index as row_index_step, union as union_step};
+ghost use Rattle.ps_meaning.specs.PlanTrees.{all_sizes};
+ghost use Rattle.ps_meaning.specs.Steps.{Cut, exprs_of, hconcat as hconcat_step, hstack as hstack_step, named_trees, row_index as row_index_step, union as union_step};
 ghost use Rattle.ps_validate.specs.Known.{AreKnown, schemas_in};
 ghost use Rattle.ps_validate.specs.Nodes.{GivesSchema, IsNodeError};
 
@@ -18,9 +18,8 @@ use ps_frame::laws::kinds_are_exact;
 use ps_frame::refusal::{PolarsError, PolarsResult};
 use ps_frame::schema::Schema;
 use ps_frame::value::DataType;
-use ps_plan::ir::ExprIR;
-use pu_index::{Arena, Node};
-use pu_order::{PlSmallStr, Steps};
+use ps_meaning::options::ExprIR;
+use pu_base::{Arena, Node, PlSmallStr, Steps};
 use std::alloc::Global;
 use std::sync::ledger::Ledger;
 
@@ -39,14 +38,17 @@ pub fn hstack_schema<L: Ledger>(
     ensures refused { IfErr result (λ e. (F : Functions) → IsNodeError F at (hstack_step (named_trees (tree_at arena.now.items) exprs.now)) (input.now ∷ []) e) }
     ensures steps { steps.new ≤ steps.old + all_sizes (exprs_of (named_trees (tree_at arena.now.items) exprs.now)) }
 {
+    // A law: an expression has a kind exactly where no rule on kinds refuses it.
     kinds_are_exact();
     let mut stacked = Schema::new(alloc);
     push_typed(alloc, at, exprs, arena, input, &mut stacked, steps)?;
+    // A law: no name stands twice in either, so none is refused below.
     input.names_differ();
     stacked.names_differ();
     let mut schema = Schema::new(alloc);
     push_with_kinds(alloc, at, &mut schema, input, &stacked)?;
     push_absent(alloc, at, &mut schema, &stacked, input)?;
+    // A law: no name stands twice in it, so no rule on names refuses the step.
     schema.names_differ();
     some_columns(at, schema)
 }
@@ -64,6 +66,7 @@ pub fn row_index_schema(
     let mut schema = Schema::new(alloc);
     push_copy(alloc, at, &mut schema, name, DataType::IdxSize)?;
     push_all(alloc, at, &mut schema, input)?;
+    // A law: no name stands twice in it, so no rule on names refuses the step.
     schema.names_differ();
     Ok(schema)
 }
@@ -101,6 +104,7 @@ pub fn union_schema(
     if !are_alike(others, schemas, schema) {
         return Err(PolarsError::SchemaMismatch { node: at });
     }
+    // A law: no name stands twice in it, so no rule on names refuses the step.
     schema.names_differ();
     shared_columns(alloc, at, schema)
 }
@@ -120,6 +124,7 @@ pub fn hconcat_schema(
     for input in inputs {
         push_all(alloc, at, &mut schema, schemas.get(*input))?;
     }
+    // A law: no name stands twice in it, so no rule on names refuses the step.
     schema.names_differ();
     some_columns(at, schema)
 }

@@ -4,7 +4,7 @@ ghost use Rattle.ps_validate.specs.Known.{IsKnown, schema_in};
 
 use ps_frame::refusal::{PolarsError, PolarsResult};
 use ps_frame::schema::Schema;
-use pu_index::Node;
+use pu_base::Node;
 use std::alloc::Global;
 use std::marker::Model;
 

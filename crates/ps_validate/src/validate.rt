@@ -21,8 +21,7 @@ use ps_frame::refusal::PolarsResult;
 use ps_frame::schema::Schema;
 use ps_plan::ir::IR;
 use ps_survey::survey::survey_plan;
-use pu_index::{Arena, Node};
-use pu_order::Steps;
+use pu_base::{Arena, Node, Steps};
 use std::alloc::Global;
 use std::marker::Model;
 use std::sync::ledger::Ledger;
@@ -80,10 +79,10 @@ fn node_schemas<F: Functions, L: Ledger>(
     requires survey { IsSurvey (plan_of root ir.now.items exprs.now.items) order.now }
     requires flaws { (n : ℕ) (w : Why) → Reached (plan_of root ir.now.items exprs.now.items) n → ¬ Flaw (plan_of root ir.now.items exprs.now.items) n w }
     requires caches { HaveOneInput ir.now.items order.now }
-    ensures valid { OnOk result (IsValid (record { count = F.counted functions.now; streams = F.streams; answer = F.answer; declared = F.declared }) (plan_of root ir.now.items exprs.now.items)) }
-    ensures schemas { IfOk result (λ s. HaveSchemas (record { count = F.counted functions.now; streams = F.streams; answer = F.answer; declared = F.declared }) (plan_of root ir.now.items exprs.now.items) s) }
-    ensures typed { OnOk result (HasSchemas (record { count = F.counted functions.now; streams = F.streams; answer = F.answer; declared = F.declared }) (plan_of root ir.now.items exprs.now.items)) }
-    ensures refused { IfErr result (λ e. IsPlanError (record { count = F.counted functions.now; streams = F.streams; answer = F.answer; declared = F.declared }) (plan_of root ir.now.items exprs.now.items) e) }
+    ensures valid { OnOk result (IsValid (F.told functions.now) (plan_of root ir.now.items exprs.now.items)) }
+    ensures schemas { IfOk result (λ s. HaveSchemas (F.told functions.now) (plan_of root ir.now.items exprs.now.items) s) }
+    ensures typed { OnOk result (HasSchemas (F.told functions.now) (plan_of root ir.now.items exprs.now.items)) }
+    ensures refused { IfErr result (λ e. IsPlanError (F.told functions.now) (plan_of root ir.now.items exprs.now.items) e) }
     ensures steps { steps.new ≤ steps.old + 2 * 65536 }
 {
     let mut schemas = Schemas::new(alloc, ir.len())?;
@@ -120,8 +119,8 @@ pub fn validate<F: Functions, L: Ledger>(
 ) -> PolarsResult<Valid>
     ensures root { IfOk result (λ v. v.root ≡ root) }
     ensures nodes { IfOk result (λ v. v.nodes ≡ ir.items) }
-    ensures valid { IfOk result (λ v. IsValidWith (record { count = F.counted functions.now; streams = F.streams; answer = F.answer; declared = F.declared }) v exprs.now.items) }
-    ensures refused { IfErr result (λ e. IsPlanError (record { count = F.counted functions.now; streams = F.streams; answer = F.answer; declared = F.declared }) (plan_of root ir.items exprs.now.items) e) }
+    ensures valid { IfOk result (λ v. IsValidWith (F.told functions.now) v exprs.now.items) }
+    ensures refused { IfErr result (λ e. IsPlanError (F.told functions.now) (plan_of root ir.items exprs.now.items) e) }
     ensures steps { steps.new ≤ steps.old + 4 * (length ir.items + length exprs.now.items + all_names ir.items exprs.now.items) + 8 * 65536 }
 {
     let survey = survey_plan(alloc, root, &ir, exprs, steps)?;

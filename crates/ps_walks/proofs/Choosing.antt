@@ -3,20 +3,22 @@ use Rattle.std.proofs.Common.{◌≡◌, ◌≢◌, ◌⊎◌, ◌↔◌, inl, i
 use Rattle.std.specs.Prelude.{Option, Some, None, Contains, IfSome, true, false}
 use Rattle.std.proofs.Math.Dec.{eqb}
 use Rattle.std.proofs.lemmas.Bool.Decides.{eqb_tells}
-use Rattle.pu_index.specs.declared.arena.Node.{Node}
+use Rattle.pu_base.specs.declared.arena.Node.{Node}
 use Rattle.ps_frame.specs.Functions.{Functions}
 use Rattle.ps_frame.specs.Tables.{Frame, Table, no_rows, whole}
 use Rattle.ps_frame.specs.Trees.{Tree, tree_at}
 use Rattle.ps_frame.specs.declared.refusal.Why.TheVariants as why
-use Rattle.ps_plan.specs.Cases.{Case, GivesBeforeCut}
+use Rattle.ps_meaning.specs.Cases.{Case, GivesBeforeCut}
 use Rattle.ps_plan.specs.Graph.{Reached}
-use Rattle.ps_plan.specs.Meaning.{Choice, IsChosen}
-use Rattle.ps_plan.specs.Nodes.{GivesFrame, wholes}
+use Rattle.ps_meaning.specs.Meaning.{Choice, IsChosen}
+use Rattle.ps_meaning.specs.Nodes.{GivesFrame, wholes}
 use Rattle.ps_plan.specs.Plans.{Plan}
-use Rattle.ps_plan.specs.Refusals.{EntryIs, IsCacheOver, IsValid, invalid_plan, two_inputs}
-use Rattle.ps_plan.specs.Steps.{Step, entry_inputs, entry_step, function_step}
-use Rattle.ps_plan.specs.declared.ir.FunctionIR.{FunctionIR}
-use Rattle.ps_plan.specs.declared.ir.FunctionIR.TheVariants as call
+use Rattle.ps_meaning.specs.StepRefusals.{invalid_plan}
+use Rattle.ps_plan.specs.Refusals.{EntryIs, IsCacheOver, IsValid, two_inputs}
+use Rattle.ps_meaning.specs.Steps.{Step, function_step}
+use Rattle.ps_plan.specs.Entries.{entry_inputs, entry_step}
+use Rattle.ps_meaning.specs.declared.options.FunctionIR.{FunctionIR}
+use Rattle.ps_meaning.specs.declared.options.FunctionIR.TheVariants as call
 use Rattle.ps_plan.specs.declared.ir.IR.{IR}
 use Rattle.ps_plan.specs.declared.ir.IR.TheVariants as entry
 use Rattle.ps_walks.specs.Computed.{GivesAt, Tables, tables_of}

@@ -1,18 +1,21 @@
 -- Where each node at and below a node is accepted, its tree is clean, and the schemas are those of the trees.
 use Rattle.std.proofs.Common.{◌≡◌, ◌⊎◌, inl, inr, ℕ, zero, suc, List, [], ◌∷◌, length, slice_get, refl, sym, subst, ◌∙◌, ap}
 use Rattle.std.specs.Prelude.{Option, Some, None, Contains, IfSome, unwrap_or}
-use Rattle.pu_index.specs.declared.arena.Node.{Node}
+use Rattle.pu_base.specs.declared.arena.Node.{Node}
 use Rattle.ps_frame.specs.Functions.{Functions}
 use Rattle.ps_frame.specs.Tables.{Fields}
 use Rattle.ps_frame.specs.Trees.{tree_at}
 use Rattle.ps_plan.specs.Graph.{Path, Reached, here, onward, inputs_at, named_by}
-use Rattle.ps_plan.specs.Plans.{AreCompletePlans, IsCompletePlan, Plan, PlanTree, node_tree, plan_trees_of, plan_within, tree_of}
-use Rattle.ps_plan.specs.Refusals.{AreClean, GraphRefused, HasOwnNumbers, IsClean, IsRefused, IsValid, Refusal, TreeRefused, TypingRefused}
-use Rattle.ps_plan.specs.Schemas.{output_schema, tree_schema, tree_schemas}
-use Rattle.ps_plan.specs.Steps.{entry_inputs, entry_step}
+use Rattle.ps_meaning.specs.PlanTrees.{AreCompletePlans, IsCompletePlan, PlanTree}
+use Rattle.ps_plan.specs.Plans.{Plan, node_tree, plan_trees_of, plan_within, tree_of}
+use Rattle.ps_meaning.specs.StepRefusals.{HasOwnNumbers, Refusal, TypingRefused}
+use Rattle.ps_plan.specs.Refusals.{AreClean, GraphRefused, IsClean, IsRefused, IsValid, TreeRefused}
+use Rattle.ps_meaning.specs.Schemas.{output_schema, tree_schema, tree_schemas}
+use Rattle.ps_plan.specs.Entries.{entry_inputs, entry_step}
 use Rattle.ps_plan.specs.declared.ir.IR.{IR}
 use Rattle.ps_plan.proofs.Complete.{numbers}
-use Rattle.ps_plan.proofs.ReachedSteps.{contains-first, contains-later, path-then}
+use Rattle.ps_meaning.proofs.Containing.{contains-first, contains-later}
+use Rattle.ps_plan.proofs.ReachedSteps.{path-then}
 use Rattle.ps_plan.proofs.ValidPlans.{path-join}
 use Rattle.ps_walks.specs.Fit.{HasSchemas, plan_schemas}
 use Rattle.ps_walks.specs.Accepted.{EachBelowAccepted, IsAccepted, IsRefusedAt, IsTypedTo, NodeSchemas, schemas_at}

@@ -2,24 +2,27 @@
 use Rattle.std.proofs.Common.{◌≡◌, ◌≢◌, ℕ, List, [], ◌∷◌, slice_get, inl, inr, refl, sym, subst, ◌∙◌, ap}
 use Rattle.std.specs.Prelude.{Option, Some, None, map, Contains, IsSomeAnd}
 use Rattle.std.specs.List.{AllByRecursion}
-use Rattle.pu_index.specs.declared.arena.Node.{Node}
+use Rattle.pu_base.specs.declared.arena.Node.{Node}
 use Rattle.ps_frame.specs.Functions.{Functions}
 use Rattle.ps_frame.specs.Trees.{tree_at}
 use Rattle.ps_frame.specs.declared.expr.What.TheVariants as what
 use Rattle.ps_frame.specs.declared.refusal.Why.TheVariants as why
 use Rattle.ps_plan.specs.Graph.{Reached, inputs_at, named_by}
-use Rattle.ps_plan.specs.Laws.{IsBuilt}
+use Rattle.ps_meaning.specs.Laws.{IsBuilt}
 use Rattle.ps_plan.specs.Plans.{Plan, plan_at, plan_trees_of}
-use Rattle.ps_plan.specs.Refusals.{GraphRefused, HasBadKeys, HasNegativeOffset, HasNoKey, IsClean, IsFileSink, IsValid, IsValidated, NamesMissingFunction, NeedsInput, Refusal, StepIs, function_missing, invalid_plan, no_input, no_key, node_left_out, unsupported}
-use Rattle.ps_plan.specs.Schemas.{output_schema, tree_schema, tree_schemas}
-use Rattle.ps_plan.specs.Steps.{Step, entry_inputs, entry_step, function_step}
-use Rattle.ps_plan.specs.declared.ir.FunctionIR.{FunctionIR}
-use Rattle.ps_plan.specs.declared.ir.FunctionIR.TheVariants as call
+use Rattle.ps_meaning.specs.StepRefusals.{HasBadKeys, HasNegativeOffset, HasNoKey, IsFileSink, IsValidated, NamesMissingFunction, NeedsInput, Refusal, invalid_plan, no_key, unsupported}
+use Rattle.ps_plan.specs.Refusals.{GraphRefused, IsClean, IsValid, StepIs, function_missing, no_input, node_left_out}
+use Rattle.ps_meaning.specs.Schemas.{output_schema, tree_schema, tree_schemas}
+use Rattle.ps_meaning.specs.Steps.{Step, function_step}
+use Rattle.ps_plan.specs.Entries.{entry_inputs, entry_step}
+use Rattle.ps_meaning.specs.declared.options.FunctionIR.{FunctionIR}
+use Rattle.ps_meaning.specs.declared.options.FunctionIR.TheVariants as call
 use Rattle.ps_plan.specs.declared.ir.IR.{IR}
 use Rattle.ps_plan.specs.declared.ir.IR.TheVariants as entry
 use Rattle.ps_plan.proofs.CleanPlans.{own-complete, reached-clean, reached-is}
 use Rattle.ps_plan.proofs.Complete.{there}
-use Rattle.ps_plan.proofs.ReachedSteps.{contains-first, contains-later, path-then}
+use Rattle.ps_meaning.proofs.Containing.{contains-first, contains-later}
+use Rattle.ps_plan.proofs.ReachedSteps.{path-then}
 use Rattle.ps_plan.proofs.ValidPlans.{reached-below}
 use Rattle.ps_plan.proofs.ValidTyped.{typed-step}
 use Rattle.ps_walks.specs.Accepted.{schemas_at}

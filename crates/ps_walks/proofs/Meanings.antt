@@ -1,18 +1,19 @@
 -- The table of a node is a meaning of its tree, under the choice that takes the tables of the caches.
 use Rattle.std.proofs.Common.{ℕ, zero, suc, List, [], ◌∷◌, slice_get}
 use Rattle.std.specs.Prelude.{Option, Some, None, Contains, IfSome}
-use Rattle.pu_index.specs.declared.arena.Node.{Node}
+use Rattle.pu_base.specs.declared.arena.Node.{Node}
 use Rattle.ps_frame.specs.Functions.{Functions}
 use Rattle.ps_frame.specs.Tables.{whole}
 use Rattle.ps_frame.specs.Trees.{tree_at}
 use Rattle.ps_plan.specs.Graph.{Path, here, onward, inputs_at, named_by}
-use Rattle.ps_plan.specs.Meaning.{AllMean, Choice, IsChosen, Means, by_case, more_mean, none_mean}
-use Rattle.ps_plan.specs.Nodes.{GivesFrame, wholes}
-use Rattle.ps_plan.specs.Plans.{AreCompletePlans, IsCompletePlan, Plan, PlanTree, node_tree, plan_trees_of, plan_within}
-use Rattle.ps_plan.specs.Steps.{entry_inputs, entry_step}
+use Rattle.ps_meaning.specs.Meaning.{AllMean, Choice, IsChosen, Means, by_case, more_mean, none_mean}
+use Rattle.ps_meaning.specs.Nodes.{GivesFrame, wholes}
+use Rattle.ps_meaning.specs.PlanTrees.{AreCompletePlans, IsCompletePlan, PlanTree}
+use Rattle.ps_plan.specs.Plans.{Plan, node_tree, plan_trees_of, plan_within}
+use Rattle.ps_plan.specs.Entries.{entry_inputs, entry_step}
 use Rattle.ps_plan.specs.declared.ir.IR.{IR}
 use Rattle.ps_plan.proofs.Complete.{numbers}
-use Rattle.ps_plan.proofs.ReachedSteps.{contains-first, contains-later}
+use Rattle.ps_meaning.proofs.Containing.{contains-first, contains-later}
 use Rattle.ps_walks.specs.Computed.{GivesAt, Tables, tables_of}
 
 module _ (F : Functions) (plan : Plan) (T : Tables) (choice : Choice) where

@@ -1,19 +1,21 @@
 -- Tables that fit node by node are meanings, and faults over them are causes.
 use Rattle.std.proofs.Common.{◌≡◌, ◌⊎◌, ◌↔◌, inl, inr, ℕ, zero, suc, List, length, slice_get, ap}
 use Rattle.std.specs.Prelude.{Option, Some, None, Contains, IfSome}
-use Rattle.pu_index.specs.declared.arena.Node.{Node}
+use Rattle.pu_base.specs.declared.arena.Node.{Node}
 use Rattle.ps_frame.specs.Functions.{Functions}
 use Rattle.ps_frame.specs.Tables.{Table, whole}
 use Rattle.ps_frame.specs.Trees.{tree_at}
 use Rattle.ps_frame.specs.declared.value.DataFault.{DataFault}
 use Rattle.ps_frame.specs.declared.value.DataFault.TheVariants as fault
-use Rattle.ps_plan.specs.Cases.{Case, GivesBeforeCut}
+use Rattle.ps_meaning.specs.Cases.{Case, GivesBeforeCut}
 use Rattle.ps_plan.specs.Graph.{Path, Reached, onward, inputs_at, named_by}
-use Rattle.ps_plan.specs.Meaning.{AllMean, Choice, IsBrokenBy, IsChosen, IsLarge, IsMeaning, NodeMayFault, by_case}
-use Rattle.ps_plan.specs.Nodes.{IsFaultAt, wholes}
-use Rattle.ps_plan.specs.Plans.{IsCompletePlan, Plan, PlanTree, node_tree, plan_trees_of, plan_within, tree_of}
+use Rattle.ps_meaning.specs.Meaning.{AllMean, Choice, IsBrokenBy, IsChosen, IsLarge, IsMeaning, by_case}
+use Rattle.ps_plan.specs.PlanMeanings.{NodeMayFault}
+use Rattle.ps_meaning.specs.Nodes.{IsFaultAt, wholes}
+use Rattle.ps_meaning.specs.PlanTrees.{IsCompletePlan, PlanTree}
+use Rattle.ps_plan.specs.Plans.{Plan, node_tree, plan_trees_of, plan_within, tree_of}
 use Rattle.ps_plan.specs.Refusals.{IsValid}
-use Rattle.ps_plan.specs.Steps.{entry_inputs, entry_step}
+use Rattle.ps_plan.specs.Entries.{entry_inputs, entry_step}
 use Rattle.ps_plan.specs.declared.ir.IR.{IR}
 use Rattle.ps_plan.specs.declared.ir.IR.TheVariants as entry
 use Rattle.ps_plan.proofs.ValidPlans.{path-join, reached-complete}

@@ -1,14 +1,16 @@
 -- Schemas kept by the numbers of nodes: each node is accepted over those of its inputs.
 use Rattle.std.specs.Prelude.{◌≡◌, ℕ, List, map, Contains, Some, IfSome, slice_get}
-use Rattle.pu_index.specs.declared.arena.Node.{Node}
+use Rattle.pu_base.specs.declared.arena.Node.{Node}
 use Rattle.ps_frame.specs.Functions.{Functions}
 use Rattle.ps_frame.specs.Tables.{Fields}
 use Rattle.ps_frame.specs.Trees.{tree_at}
 use Rattle.ps_plan.specs.Graph.{Path, inputs_at}
 use Rattle.ps_plan.specs.Plans.{Plan}
-use Rattle.ps_plan.specs.Refusals.{Refusal, GraphRefused, HasOwnNumbers, TypingRefused}
-use Rattle.ps_plan.specs.Schemas.{output_schema}
-use Rattle.ps_plan.specs.Steps.{Step, entry_inputs, entry_step}
+use Rattle.ps_meaning.specs.StepRefusals.{Refusal, HasOwnNumbers, TypingRefused}
+use Rattle.ps_plan.specs.Refusals.{GraphRefused}
+use Rattle.ps_meaning.specs.Schemas.{output_schema}
+use Rattle.ps_meaning.specs.Steps.{Step}
+use Rattle.ps_plan.specs.Entries.{entry_inputs, entry_step}
 
 -- the schema of each number
 abbrev pub NodeSchemas : Type 0

@@ -1,14 +1,14 @@
 -- Tables kept by the numbers of nodes: each node gives its own over those of its inputs.
 use Rattle.std.specs.Prelude.{ℕ, List, map, Contains, IfSome, slice_get}
-use Rattle.pu_index.specs.declared.arena.Node.{Node}
+use Rattle.pu_base.specs.declared.arena.Node.{Node}
 use Rattle.ps_frame.specs.Functions.{Functions}
 use Rattle.ps_frame.specs.Tables.{Frame}
 use Rattle.ps_frame.specs.Trees.{tree_at}
 use Rattle.ps_frame.specs.declared.value.DataFault.{DataFault}
 use Rattle.ps_plan.specs.Graph.{Path, inputs_at}
-use Rattle.ps_plan.specs.Nodes.{GivesFrame, IsFaultAt}
+use Rattle.ps_meaning.specs.Nodes.{GivesFrame, IsFaultAt}
 use Rattle.ps_plan.specs.Plans.{Plan}
-use Rattle.ps_plan.specs.Steps.{entry_inputs, entry_step}
+use Rattle.ps_plan.specs.Entries.{entry_inputs, entry_step}
 
 -- the table of each number
 abbrev pub Tables : Type 0

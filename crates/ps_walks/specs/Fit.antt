@@ -5,11 +5,13 @@ use Rattle.ps_frame.specs.Functions.{Functions}
 use Rattle.ps_frame.specs.Tables.{Fields}
 use Rattle.ps_frame.specs.Trees.{IsComplete, tree_at}
 use Rattle.ps_plan.specs.Graph.{Reached}
-use Rattle.ps_plan.specs.Laws.{IsBuilt, IsTypedStep}
+use Rattle.ps_meaning.specs.Laws.{IsBuilt}
+use Rattle.ps_meaning.specs.Laws.{IsTypedStep}
 use Rattle.ps_plan.specs.Plans.{Plan, tree_of}
-use Rattle.ps_plan.specs.Refusals.{HasBadKeys, HasNegativeOffset, HasNoKey, IsFileSink, IsValidated, NamesMissingFunction, NeedsInput}
-use Rattle.ps_plan.specs.Schemas.{output_schema, tree_schema}
-use Rattle.ps_plan.specs.Steps.{Step, entry_inputs, entry_step, step_exprs}
+use Rattle.ps_meaning.specs.StepRefusals.{HasBadKeys, HasNegativeOffset, HasNoKey, IsFileSink, IsValidated, NamesMissingFunction, NeedsInput}
+use Rattle.ps_meaning.specs.Schemas.{output_schema, tree_schema}
+use Rattle.ps_meaning.specs.Steps.{Step, step_exprs}
+use Rattle.ps_plan.specs.Entries.{entry_inputs, entry_step}
 use Rattle.ps_plan.specs.declared.ir.IR.{IR}
 use Rattle.ps_walks.specs.Accepted.{NodeSchemas, schemas_at}
 

@@ -2,9 +2,11 @@
 ghost use Rattle.std.specs.Prelude.{◌≡◌, ℕ};
 ghost use Rattle.ps_frame.specs.Functions.{Functions};
 ghost use Rattle.ps_plan.specs.Graph.{Reached};
-ghost use Rattle.ps_plan.specs.Plans.{IsCompletePlan, Plan, tree_of};
-ghost use Rattle.ps_plan.specs.Refusals.{IsRefused, IsValid, Refusal};
-ghost use Rattle.ps_plan.specs.Schemas.{tree_schema};
+ghost use Rattle.ps_meaning.specs.PlanTrees.{IsCompletePlan};
+ghost use Rattle.ps_plan.specs.Plans.{Plan, tree_of};
+ghost use Rattle.ps_meaning.specs.StepRefusals.{Refusal};
+ghost use Rattle.ps_plan.specs.Refusals.{IsRefused, IsValid};
+ghost use Rattle.ps_meaning.specs.Schemas.{tree_schema};
 ghost use Rattle.ps_walks.specs.Accepted.{EachBelowAccepted, IsAccepted, IsRefusedAt, NodeSchemas};
 ghost use Rattle.ps_walks.specs.Fit.{HasSchemas};
 

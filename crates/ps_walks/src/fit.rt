@@ -5,7 +5,7 @@ ghost use Rattle.ps_frame.specs.Trees.{tree_at};
 ghost use Rattle.ps_plan.specs.Graph.{Reached};
 ghost use Rattle.ps_plan.specs.Plans.{Plan};
 ghost use Rattle.ps_plan.specs.Refusals.{IsValid};
-ghost use Rattle.ps_plan.specs.Steps.{entry_inputs, entry_step};
+ghost use Rattle.ps_plan.specs.Entries.{entry_inputs, entry_step};
 ghost use Rattle.ps_plan.specs.declared.ir.IR.{IR};
 ghost use Rattle.ps_walks.specs.Accepted.{schemas_at};
 ghost use Rattle.ps_walks.specs.Fit.{HasSchemas, IsFit, plan_schemas};

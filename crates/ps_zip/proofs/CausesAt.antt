@@ -20,9 +20,9 @@ use Rattle.ps_frame.specs.declared.value.DataFault.TheVariants as fault
 use Rattle.ps_frame.specs.declared.value.DataType.{DataType}
 use Rattle.ps_frame.specs.declared.value.Value.{Value}
 use Rattle.ps_frame.specs.declared.value.Value.TheVariants as val
-use Rattle.ps_plan.specs.Cases.{columns_at}
-use Rattle.ps_plan.proofs.Fits.{all-append, all-get, all-of}
-use Rattle.ps_plan.proofs.StepFits.{all-flat}
+use Rattle.ps_meaning.specs.Cases.{columns_at}
+use Rattle.ps_meaning.proofs.Fits.{all-append, all-get, all-of}
+use Rattle.ps_meaning.proofs.StepFits.{all-flat}
 
 module _ (at : ℕ) where
   -- causes, and those of a cell and of a column, that are at the node

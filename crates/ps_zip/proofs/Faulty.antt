@@ -2,9 +2,9 @@
 use Rattle.std.proofs.Common.{◌≡◌, ℕ, ◌<◌, List, [], ◌∷◌, ◌++◌, Bool, true, false, refl, subst, sym, ◌∙◌, ap, inl, inr}
 use Rattle.std.specs.Prelude.{◌⊎◌, Contains, flat_map, map, not, ◌||◌, is_some, Some, if◌then◌else◌}
 use Rattle.std.specs.List.{AllZip, list_any}
-use Rattle.ps_eval.proofs.KeptRows.{cell-causes, head-one_of, head-or}
-use Rattle.ps_eval.proofs.Zips.{early, early-some, first-bad, head_fault, one_of-left, one_of-right}
-use Rattle.ps_eval.specs.Held.{IsOneOf, first_bad}
+use Rattle.ps_expr_eval.proofs.KeptRows.{cell-causes, head-one_of, head-or}
+use Rattle.ps_expr_eval.proofs.Zips.{early, early-some, first-bad, head_fault, one_of-left, one_of-right}
+use Rattle.ps_expr_eval.specs.Held.{IsOneOf, first_bad}
 use Rattle.ps_frame.specs.Aggregates.{max_rows}
 use Rattle.ps_frame.specs.Causes.{Cause, Column, cell_causes, column_causes, is_empty}
 use Rattle.ps_frame.specs.Evaluated.{IsFaultOf}

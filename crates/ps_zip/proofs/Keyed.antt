@@ -3,20 +3,20 @@ use Rattle.std.proofs.Common.{◌≡◌, ℕ, ◌≤◌, List, [], ◌∷◌, �
 use Rattle.std.specs.Prelude.{◌⊎◌, map, Some, false}
 use Rattle.std.specs.List.{AllByRecursion, AllZip}
 use Rattle.std.proofs.lemmas.List.{map-append}
-use Rattle.ps_eval.proofs.Zips.{map-map}
+use Rattle.ps_expr_eval.proofs.Zips.{map-map}
 use Rattle.ps_frame.specs.Aggregates.{max_rows}
 use Rattle.ps_frame.specs.Frames.{kinds_of}
 use Rattle.ps_frame.specs.Tables.{Frame, columns_of, whole}
 use Rattle.ps_frame.specs.Trees.{Tree}
-use Rattle.ps_frame.specs.Typed.{Typed}
+use Rattle.ps_frame.specs.Series.{Series}
 use Rattle.ps_frame.specs.Zip.{zipped}
 use Rattle.ps_frame.specs.declared.refusal.PolarsError.{PolarsError}
 use Rattle.ps_frame.specs.declared.refusal.PolarsError.TheVariants as error
 use Rattle.ps_frame.specs.declared.value.DataFault.{DataFault}
 use Rattle.ps_frame.specs.declared.value.DataType.{DataType}
-use Rattle.ps_plan.proofs.Fits.{all-append}
-use Rattle.ps_plan.specs.Cases.{columns_at, keyed}
-use Rattle.ps_plan.specs.Errors.{fault_error}
+use Rattle.ps_meaning.proofs.Fits.{all-append}
+use Rattle.ps_meaning.specs.Cases.{columns_at, keyed}
+use Rattle.ps_meaning.specs.Errors.{fault_error}
 use Rattle.ps_zip.proofs.CausesAt.{exprs-at, keyed-at}
 use Rattle.ps_zip.proofs.Faulty.{is-fault}
 use Rattle.ps_zip.proofs.LargeColumns.{large-exprs, large-keyed}
@@ -56,7 +56,7 @@ module _ (f : Frame) where
     alone-kinds : old ≡ [] → map (λ i. Some (kind_in i)) new ≡ expr_kinds f.schema ts
     alone-kinds e = ap (map (λ i. Some (kind_in i))) (a.1 ∙ ap (λ xs. xs ++ a.0) e) ∙ exprs-kinds ts a.0 a.2
 
-    pub alone-keeps : old ≡ [] → (cs : List Typed) (n : ℕ) → AreSideBySide new cs n → KeepsZip (zipped false at (columns_at at ts (whole f))) (expr_kinds f.schema ts) cs n
+    pub alone-keeps : old ≡ [] → (cs : List Series) (n : ℕ) → AreSideBySide new cs n → KeepsZip (zipped false at (columns_at at ts (whole f))) (expr_kinds f.schema ts) cs n
     alone-keeps e cs n s =
         subst (λ ks. KeepsZip (zipped false at (columns_at at ts (whole f))) ks cs n) (alone-kinds e) (keeps-zip at new (columns_at at ts (whole f)) cs n (alone-hold e) s)
 
@@ -81,7 +81,7 @@ module _ (f : Frame) where
           ∙ ap (λ ks. ks ++ map (λ i. Some (kind_in i)) a.0) (sym (map-map (λ (j : DataType). Some j) kind_in old) ∙ ap (map Some) k)
           ∙ ap (λ ks. map Some (kinds_of f.schema) ++ ks) (exprs-kinds ts a.0 a.2)
 
-      pub keyed-keeps : map kind_in old ≡ kinds_of f.schema → (cs : List Typed) (n : ℕ) → AreSideBySide new cs n → KeepsZip (keyed at ts (whole f)) (keyed_kinds f.schema ts) cs n
+      pub keyed-keeps : map kind_in old ≡ kinds_of f.schema → (cs : List Series) (n : ℕ) → AreSideBySide new cs n → KeepsZip (keyed at ts (whole f)) (keyed_kinds f.schema ts) cs n
       keyed-keeps k cs n s = subst (λ ks. KeepsZip (keyed at ts (whole f)) ks cs n) (keyed-kinds k) (keeps-zip at new (columns_of (whole f) ++ columns_at at ts (whole f)) cs n keyed-hold s)
 
       pub keyed-error : length f.rows ≤ max_rows → (e : PolarsError) → (e ≡ error.OutOfMemory) ⊎ ((d : DataFault) × (e ≡ fault_error at d) × IsFaultIn new d) → IsZipError at ts (whole f) (keyed at ts (whole f)) e

@@ -8,8 +8,8 @@ use Rattle.ps_frame.specs.Parts.{tree_parts}
 use Rattle.ps_frame.specs.Tables.{Frame, Table, column_at, columns_of, values_at, whole}
 use Rattle.ps_frame.specs.Trees.{Tree}
 use Rattle.ps_frame.specs.Zip.{Extent, below, broadcasts, extent_of, extents, least_or, lengths_where, zip_length}
-use Rattle.ps_plan.specs.Cases.{columns_at}
-use Rattle.ps_plan.specs.Meaning.{HasLargeColumn}
+use Rattle.ps_meaning.specs.Cases.{columns_at}
+use Rattle.ps_meaning.specs.Meaning.{HasLargeColumn}
 
 fold-least : (n : ℕ) (ns : List ℕ) → fold min n ns ≤ n
 fold-least n [] = omega arith

@@ -7,6 +7,4 @@ pub mod Results
 pub mod Rows
 pub mod Standing
 pub mod Steps
-pub mod TableFits
 pub mod WholeZips
-pub mod Tested

@@ -1,11 +1,11 @@
 -- An input's column in rows.
 use Rattle.std.proofs.Common.{◌≡◌, ℕ, ◌≤◌, refl, subst, sym, ◌∙◌, ap}
 use Rattle.std.specs.Prelude.{Result, Ok, Err, Some, None}
-use Rattle.ps_eval.specs.Held.{Settles, cells_of, first_bad, first_fault, or_else, values_of}
-use Rattle.ps_eval.specs.declared.part.Part.{Part}
-use Rattle.ps_eval.specs.declared.part.Values.{Values}
+use Rattle.ps_expr_eval.specs.Held.{Settles, cells_of, first_bad, first_fault, or_else, values_of}
+use Rattle.ps_expr_eval.specs.declared.computed.ComputedColumn.{ComputedColumn}
+use Rattle.ps_expr_eval.specs.declared.computed.Values.{Values}
 use Rattle.ps_frame.specs.Frames.{broadcast_to}
-use Rattle.ps_frame.specs.Typed.{Typed}
+use Rattle.ps_frame.specs.Series.{Series}
 use Rattle.ps_frame.specs.declared.value.Cell.TheVariants as held
 use Rattle.ps_frame.specs.declared.value.DataFault.{DataFault}
 use Rattle.std.specs.Prelude.{map}
@@ -14,19 +14,19 @@ use Rattle.ps_zip.specs.Inputs.{CanStand, HasFaultAt, IsColumnAt}
 use Rattle.ps_zip.specs.declared.inputs.Input.{Input}
 use Rattle.ps_zip.specs.declared.inputs.Input.TheVariants as input
 
-pub table-column : (n : ℕ) (i : Input) (c out : Typed) → i ≡ input.Table c → CanStand n i → out ≡ broadcast_to n c → IsColumnAt n i out
+pub table-column : (n : ℕ) (i : Input) (c out : Series) → i ≡ input.Table c → CanStand n i → out ≡ broadcast_to n c → IsColumnAt n i out
 table-column n i c out e s is =
     subst (λ x. IsColumnAt n x out) (sym e)
     (subst (IsColumnAt n (input.Table c)) (sym is) (record { kind = refl; cells = values-stand n (input.Table c) c.values refl (subst (CanStand n) e s) }))
 
-module _ (n : ℕ) (p : Part) where
+module _ (n : ℕ) (p : ComputedColumn) where
   no-bad : CanStand n (input.Computed p) → first_fault p ≡ None → first_bad (cells_of p.cells) ≡ None
   no-bad s e = sym (ap (λ o. or_else o (first_bad (cells_of p.cells))) s.whole_is) ∙ e
 
   one-bad : (f : DataFault) → CanStand n (input.Computed p) → first_fault p ≡ Some f → first_bad (cells_of p.cells) ≡ Some f
   one-bad f s e = sym (ap (λ o. or_else o (first_bad (cells_of p.cells))) s.whole_is) ∙ e
 
-  pub computed-column : (outcome : Result Values DataFault) (vs : Values) (c out : Typed) → CanStand n (input.Computed p) → Settles p outcome → outcome ≡ Ok vs → c ≡ record { kind = p.dtype; values = values_of vs } → out ≡ broadcast_to n c
+  pub computed-column : (outcome : Result Values DataFault) (vs : Values) (c out : Series) → CanStand n (input.Computed p) → Settles p outcome → outcome ≡ Ok vs → c ≡ record { kind = p.dtype; values = values_of vs } → out ≡ broadcast_to n c
       → IsColumnAt n (input.Computed p) out
   computed-column outcome vs c out s settled is made repeated =
       let both : Settles p (Ok vs) = subst (Settles p) is settled in

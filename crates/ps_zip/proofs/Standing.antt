@@ -4,15 +4,15 @@ use Rattle.std.proofs.Math.Seq.{take-length}
 use Rattle.std.specs.Prelude.{◌⊎◌, map, not, ◌&&◌, ◌==◌, is_some, Option, Some, None, if◌then◌else◌}
 use Rattle.std.specs.List.{AllByRecursion, AllZip}
 use Rattle.std.proofs.lemmas.List.{length-map, map-append, take_more}
-use Rattle.ps_eval.proofs.KeptRows.{length-below}
-use Rattle.ps_eval.proofs.Zips.{Ends, early-some, extent-ends, extents-end, get_or-map_at, map-map, map_same}
-use Rattle.ps_eval.specs.Held.{cell_at, first_bad, held_cell, held_values}
-use Rattle.ps_eval.specs.Lengths.{ending_fault, extent_held, first_ended}
-use Rattle.ps_eval.specs.Rows.{cell_for}
-use Rattle.ps_eval.specs.declared.lengths.Ending.{Ending}
+use Rattle.ps_expr_eval.proofs.KeptRows.{length-below}
+use Rattle.ps_expr_eval.proofs.Zips.{Ends, early-some, extent-ends, extents-end, get_or-map_at, map-map, map_same}
+use Rattle.ps_expr_eval.specs.Held.{cell_at, first_bad, held_cell, held_values}
+use Rattle.ps_expr_eval.specs.Lengths.{ending_fault, extent_held, first_ended}
+use Rattle.ps_expr_eval.specs.Rows.{cell_for}
+use Rattle.ps_expr_eval.specs.declared.lengths.Ending.{Ending}
 use Rattle.ps_frame.specs.Causes.{Cell, Column, faulty, value}
 use Rattle.ps_frame.specs.Frames.{AllOfHeight, column_values}
-use Rattle.ps_frame.specs.Typed.{Typed}
+use Rattle.ps_frame.specs.Series.{Series}
 use Rattle.ps_frame.specs.Zip.{Extent, below, breaks_shape, broadcasts, cell_in_row, extent_of, extents, zip_length, zipped}
 use Rattle.ps_frame.specs.declared.value.Cell.{Cell as Held}
 use Rattle.ps_frame.specs.declared.value.Cell.TheVariants as held
@@ -152,10 +152,10 @@ held-back (value w ∷ cells) (v ∷ vs) e =
     let r = held-back cells vs rest in cc
 held-back (faulty x xs ∷ cells) (v ∷ vs) e = cc
 
-shows : (n : ℕ) (i : Input) (c : Column) (t : Typed) → Holds i c → IsColumnAt n i t → Shows n c t.values
+shows : (n : ℕ) (i : Input) (c : Column) (t : Series) → Holds i c → IsColumnAt n i t → Shows n c t.values
 shows n i c t k s = held-back (first_cells n c) t.values (sym (cells-held n i c k) ∙ s.cells)
 
-all-show : (n : ℕ) (is : List Input) (cs : List Column) (ts : List Typed) → AllZip Holds is cs → AllZip (IsColumnAt n) is ts → AllZip (Shows n) cs (column_values ts)
+all-show : (n : ℕ) (is : List Input) (cs : List Column) (ts : List Series) → AllZip Holds is cs → AllZip (IsColumnAt n) is ts → AllZip (Shows n) cs (column_values ts)
 all-show n [] [] [] k s = tt
 all-show n [] [] (t ∷ ts) k s = absurd s
 all-show n [] (c ∷ cs) ts k s = absurd k
@@ -163,20 +163,20 @@ all-show n (i ∷ is) [] ts k s = absurd k
 all-show n (i ∷ is) (c ∷ cs) [] k s = absurd s
 all-show n (i ∷ is) (c ∷ cs) (t ∷ ts) k s = (shows n i c t k.0 s.0, all-show n is cs ts k.1 s.1)
 
-all-high : (n : ℕ) (cs : List Column) (ts : List Typed) → AllZip (Shows n) cs (column_values ts) → AllOfHeight n ts
+all-high : (n : ℕ) (cs : List Column) (ts : List Series) → AllZip (Shows n) cs (column_values ts) → AllOfHeight n ts
 all-high n [] [] s = tt
 all-high n (c ∷ cs) [] s = tt
 all-high n [] (t ∷ ts) s = absurd s
 all-high n (c ∷ cs) (t ∷ ts) s = (shown-length n c t.values s.0, all-high n cs ts s.1)
 
-all-kinds : (n : ℕ) (is : List Input) (ts : List Typed) → AllZip (IsColumnAt n) is ts → map (λ (t : Typed). Some t.kind) ts ≡ map (λ i. Some (kind_in i)) is
+all-kinds : (n : ℕ) (is : List Input) (ts : List Series) → AllZip (IsColumnAt n) is ts → map (λ (t : Series). Some t.kind) ts ≡ map (λ i. Some (kind_in i)) is
 all-kinds n [] [] s = refl
 all-kinds n [] (t ∷ ts) s = absurd s
 all-kinds n (i ∷ is) [] s = absurd s
 all-kinds n (i ∷ is) (t ∷ ts) s = let here = s.0.kind in let rest = all-kinds n is ts s.1 in cc
 
 -- inputs side by side keep the zip of their columns
-pub keeps-zip : (at : ℕ) (is : List Input) (cs : List Column) (ts : List Typed) (n : ℕ) → AllZip Holds is cs → AreSideBySide is ts n → KeepsZip (zipped false at cs) (map (λ i. Some (kind_in i)) is) ts n
+pub keeps-zip : (at : ℕ) (is : List Input) (cs : List Column) (ts : List Series) (n : ℕ) → AllZip Holds is cs → AreSideBySide is ts n → KeepsZip (zipped false at cs) (map (λ i. Some (kind_in i)) is) ts n
 keeps-zip at is cs ts n k s =
     let early_none = sym (early-some (map ending_in is) cs (all-end is cs k)) ∙ ap is_some s.whole_are in
     let shown = all-show n is cs ts k s.columns_are in

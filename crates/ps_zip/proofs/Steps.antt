@@ -6,11 +6,11 @@ use Rattle.std.specs.List.{AllByRecursion, AllZip}
 use Rattle.std.specs.Str.{bytes_eq}
 use Rattle.std.proofs.lemmas.List.{map-append, take_more}
 use Rattle.std.proofs.lemmas.List.Quantifiers.{position-Some}
-use Rattle.ps_eval.proofs.Parts.{all_values}
-use Rattle.ps_eval.proofs.Zips.{map-map}
-use Rattle.ps_eval.specs.Evaluations.{Evaluates}
-use Rattle.ps_eval.specs.Held.{held_cell, held_values}
-use Rattle.ps_eval.specs.declared.part.Part.{Part}
+use Rattle.ps_expr_eval.proofs.Parts.{all_values}
+use Rattle.ps_expr_eval.proofs.Zips.{map-map}
+use Rattle.ps_expr_eval.specs.Evaluations.{Evaluates}
+use Rattle.ps_expr_eval.specs.Held.{held_cell, held_values}
+use Rattle.ps_expr_eval.specs.declared.computed.ComputedColumn.{ComputedColumn}
 use Rattle.ps_frame.proofs.Lists.{and_both}
 use Rattle.ps_frame.proofs.Rows.{columns_of-frame, values_at-rows_of}
 use Rattle.ps_frame.specs.Causes.{Cell, faulty, value}
@@ -19,15 +19,15 @@ use Rattle.ps_frame.specs.Frames.{IsFrame, column_values, kinds_of}
 use Rattle.ps_frame.specs.Lawful.{FitsFrame}
 use Rattle.ps_frame.specs.Tables.{Fields, Frame, column_at, columns_of, field_index, field_kind, rows_of, values_at, values_at_some, whole}
 use Rattle.ps_frame.specs.Trees.{Tree}
-use Rattle.ps_frame.specs.Typed.{Typed, all_fit}
+use Rattle.ps_frame.specs.Series.{Series, all_fit}
 use Rattle.ps_frame.specs.Values.{fits_kind}
 use Rattle.ps_frame.specs.Zip.{below}
 use Rattle.ps_frame.specs.declared.value.Cell.TheVariants as held
 use Rattle.ps_frame.specs.declared.value.DataType.{DataType}
 use Rattle.ps_frame.specs.declared.value.DataType.TheVariants as kind
 use Rattle.ps_frame.specs.declared.value.Value.{Value}
-use Rattle.ps_plan.proofs.EvalFits.{eval-fits}
-use Rattle.ps_plan.proofs.Fits.{CellFits, all-append}
+use Rattle.ps_meaning.proofs.EvalFits.{eval-fits}
+use Rattle.ps_meaning.proofs.Fits.{CellFits, all-append}
 use Rattle.ps_zip.specs.Inputs.{AddsExprs, FitsItsKind, HasFaultAt, Holds, IsExprInput, SomeFaultAt, kind_in}
 use Rattle.ps_zip.specs.declared.inputs.Input.{Input}
 use Rattle.ps_zip.specs.declared.inputs.Input.TheVariants as input
@@ -64,16 +64,16 @@ zip-map R f (x ∷ xs) (y ∷ ys) a = (a.0, zip-map R f xs ys a.1)
 held-whole : (vs : List Value) → map held_cell (map value vs) ≡ map held.Val vs
 held-whole vs = map-map held_cell value vs
 
-pub table-fits : (c : Typed) → IsTrue (all_fit c.kind c.values) → FitsItsKind (input.Table c)
+pub table-fits : (c : Series) → IsTrue (all_fit c.kind c.values) → FitsItsKind (input.Table c)
 table-fits c h = rw (all_values c.values) h
 
-module _ (f : Frame) (cs : List Typed) (is : IsFrame f.schema cs (length f.rows)) (rows : f.rows ≡ rows_of (length f.rows) (column_values cs)) where
-  column-holds : (n : ℕ) (d : Typed) → n < length cs → Holds (input.Table (get_or cs n d)) (column_at n (whole f))
+module _ (f : Frame) (cs : List Series) (is : IsFrame f.schema cs (length f.rows)) (rows : f.rows ≡ rows_of (length f.rows) (column_values cs)) where
+  column-holds : (n : ℕ) (d : Series) → n < length cs → Holds (input.Table (get_or cs n d)) (column_at n (whole f))
   column-holds n d h =
       let same : (get_or cs n d).values ≡ values_at n f.rows = sym (ap (values_at n) rows ∙ values_at-rows_of (length f.rows) n cs d is.heights h) in
       record { cells = ap (map held.Val) same ∙ sym (held-whole (values_at n f.rows)); ended = refl }
 
-  columns-hold : (d : Typed) (n : ℕ) → n ≤ length cs → AllZip Holds (map input.Table (take n cs)) (map (λ i. column_at i (whole f)) (below n))
+  columns-hold : (d : Series) (n : ℕ) → n ≤ length cs → AllZip Holds (map input.Table (take n cs)) (map (λ i. column_at i (whole f)) (below n))
   columns-hold d zero h = tt
   columns-hold d (suc n) h =
       let front = ap (λ m. take m cs) (sym (add-one n)) ∙ take_more cs n d (omega arith) in
@@ -85,7 +85,7 @@ module _ (f : Frame) (cs : List Typed) (is : IsFrame f.schema cs (length f.rows)
 
   pub table-holds : AllZip Holds (map input.Table cs) (columns_of (whole f))
   table-holds =
-      let d : Typed = record { kind = kind.Int64; values = [] } in
+      let d : Series = record { kind = kind.Int64; values = [] } in
       subst (λ ts. AllZip Holds (map input.Table ts) (columns_of (whole f))) (take-length cs)
       (subst (λ n. AllZip Holds (map input.Table (take (length cs) cs)) (map (λ i. column_at i (whole f)) (below n))) (columns_of-frame is) (columns-hold d (length cs) (omega arith)))
 
@@ -93,7 +93,7 @@ module _ (f : Frame) (cs : List Typed) (is : IsFrame f.schema cs (length f.rows)
   table-kinds = map-map kind_in input.Table cs ∙ is.kinds
 
 -- one more column of a table
-pub inputs-more : (cs : List Typed) (i : ℕ) (c : Typed) (old new : List Input) (x : Input) → i < length cs → c ≡ get_or cs i c → old ≡ map input.Table (take i cs) → AllByRecursion FitsItsKind old → x ≡ input.Table c → IsTrue (all_fit c.kind c.values) → new ≡ old ++ x ∷ []
+pub inputs-more : (cs : List Series) (i : ℕ) (c : Series) (old new : List Input) (x : Input) → i < length cs → c ≡ get_or cs i c → old ≡ map input.Table (take i cs) → AllByRecursion FitsItsKind old → x ≡ input.Table c → IsTrue (all_fit c.kind c.values) → new ≡ old ++ x ∷ []
     → (new ≡ map input.Table (take (i + 1) cs)) × AllByRecursion FitsItsKind new
 inputs-more cs i c old new x h at' before fit is fits grown = (
   grown ∙ ap (λ xs. xs ++ x ∷ []) before ∙ ap (λ y. map input.Table (take i cs) ++ y ∷ []) is
@@ -118,7 +118,7 @@ kind-at name s i k there is =
     let first = position-Some (λ (f : List ℕ × DataType). bytes_eq name f.0) s i d there in
     at-first name s i k d first.1 first.2 is
 
-pub named-is : (f : Frame) (name : List ℕ) (i : ℕ) (c : Typed) → field_index name f.schema ≡ Some i → slice_get (kinds_of f.schema) i ≡ Some c.kind → c.values ≡ values_at i f.rows → IsTrue (all_fit c.kind c.values)
+pub named-is : (f : Frame) (name : List ℕ) (i : ℕ) (c : Series) → field_index name f.schema ≡ Some i → slice_get (kinds_of f.schema) i ≡ Some c.kind → c.values ≡ values_at i f.rows → IsTrue (all_fit c.kind c.values)
     → IsExprInput f (Tree.column name) (input.Table c)
 named-is f name i c there k vs fits = record {
   holds = λ node. record {
@@ -134,7 +134,7 @@ held-fit k [] h = refl
 held-fit k (value v ∷ cells) h = and_both (fits_kind k v) (all_fit k (held_values (map held_cell cells))) h.0 (held-fit k cells h.1)
 held-fit k (faulty c cs ∷ cells) h = held-fit k cells h.1
 
-pub computed-is : (f : Frame) (t : Tree) (p : Part) → FitsFrame f → Evaluates f t p → IsExprInput f t (input.Computed p)
+pub computed-is : (f : Frame) (t : Tree) (p : ComputedColumn) → FitsFrame f → Evaluates f t p → IsExprInput f t (input.Computed p)
 computed-is f t p fits e = record {
   holds = λ node. record { cells = (e.keeps node).cells; ended = (e.keeps node).ended };
   kind = e.kind;

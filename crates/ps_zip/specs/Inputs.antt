@@ -1,16 +1,16 @@
 -- What a zip takes: a column of the table, or what is held of an expression's column.
 use Rattle.std.specs.Prelude.{◌≡◌, ◌≤◌, ◌<◌, ◌⊎◌, ℕ, List, [], ◌∷◌, ◌++◌, map, length, false, IsTrue, Option, None, Some}
 use Rattle.std.specs.List.{AllZip}
-use Rattle.ps_eval.specs.Held.{IsOneOf, cells_of, first_bad, held_cell, held_values}
-use Rattle.ps_eval.specs.Lengths.{ending_fault, extent_held}
-use Rattle.ps_eval.specs.Rows.{cell_for}
-use Rattle.ps_eval.specs.declared.lengths.Ending.{Ending}
+use Rattle.ps_expr_eval.specs.Held.{IsOneOf, cells_of, first_bad, held_cell, held_values}
+use Rattle.ps_expr_eval.specs.Lengths.{ending_fault, extent_held}
+use Rattle.ps_expr_eval.specs.Rows.{cell_for}
+use Rattle.ps_expr_eval.specs.declared.lengths.Ending.{Ending}
 use Rattle.ps_frame.specs.Aggregates.{max_rows}
 use Rattle.ps_frame.specs.Causes.{Column as AColumn}
 use Rattle.ps_frame.specs.Eval.{eval}
 use Rattle.ps_frame.specs.Tables.{Frame, whole}
 use Rattle.ps_frame.specs.Trees.{Tree}
-use Rattle.ps_frame.specs.Typed.{Typed, all_fit}
+use Rattle.ps_frame.specs.Series.{Series, all_fit}
 use Rattle.ps_frame.specs.Typing.{kind_over}
 use Rattle.ps_frame.specs.Zip.{below, broadcasts, zip_length}
 use Rattle.ps_frame.specs.declared.value.Cell.{Cell as Held}
@@ -68,7 +68,7 @@ pub record CanStand (n : ℕ) (i : Input) : Type 0 where
   pub fits : FitsItsKind i
 
 -- a column is an input in n rows: it has its kind, and the values of its cells there
-pub record IsColumnAt (n : ℕ) (i : Input) (c : Typed) : Type 0 where
+pub record IsColumnAt (n : ℕ) (i : Input) (c : Series) : Type 0 where
   pub kind : c.kind ≡ kind_in i
   pub cells : cells_in n i ≡ map held.Val c.values
 
@@ -89,7 +89,7 @@ abbrev pub early_in : List Input → Option DataFault
 early_in is = ending_fault (map ending_in is)
 
 -- columns are inputs side by side that nothing ended, in rows that can be counted
-pub record AreSideBySide (is : List Input) (columns : List Typed) (height : ℕ) : Type 0 where
+pub record AreSideBySide (is : List Input) (columns : List Series) (height : ℕ) : Type 0 where
   pub whole_are : early_in is ≡ None
   pub height_is : height ≡ height_in is
   pub small : height ≤ max_rows

@@ -5,7 +5,7 @@ use Rattle.ps_frame.specs.Aggregates.{max_rows}
 use Rattle.ps_frame.specs.Frames.{AllOfHeight, column_values, kinds_of}
 use Rattle.ps_frame.specs.Tables.{Fields, Table, rows_of}
 use Rattle.ps_frame.specs.Trees.{IsComplete, Tree}
-use Rattle.ps_frame.specs.Typed.{Typed}
+use Rattle.ps_frame.specs.Series.{Series}
 use Rattle.ps_frame.specs.Typing.{kind_over}
 use Rattle.ps_frame.specs.Zip.{Zipped}
 use Rattle.ps_frame.specs.declared.refusal.PolarsError.{PolarsError}
@@ -13,8 +13,8 @@ use Rattle.ps_frame.specs.declared.refusal.PolarsError.TheVariants as error
 use Rattle.ps_frame.specs.declared.value.DataFault.{DataFault}
 use Rattle.ps_frame.specs.declared.value.DataFault.TheVariants as fault
 use Rattle.ps_frame.specs.declared.value.DataType.{DataType}
-use Rattle.ps_plan.specs.Errors.{fault_error}
-use Rattle.ps_plan.specs.Meaning.{HasLargeColumn}
+use Rattle.ps_meaning.specs.Errors.{fault_error}
+use Rattle.ps_meaning.specs.Meaning.{HasLargeColumn}
 
 -- nothing is missing in the expressions, and each has a kind over the schema
 abbrev pub AreTypedOver : Fields → List Tree → Type 0
@@ -28,10 +28,10 @@ abbrev pub keyed_kinds : Fields → List Tree → List (Option DataType)
 keyed_kinds schema trees = map Some (kinds_of schema) ++ expr_kinds schema trees
 
 -- columns have the rows of a zip that nothing broke, these kinds, and one height that can be counted
-pub record KeepsZip (z : Zipped) (kinds : List (Option DataType)) (columns : List Typed) (height : ℕ) : Type 0 where
+pub record KeepsZip (z : Zipped) (kinds : List (Option DataType)) (columns : List Series) (height : ℕ) : Type 0 where
   pub rows : z.rows ≡ rows_of height (column_values columns)
   pub whole : z.broken ≡ []
-  pub kinds_are : map (λ (c : Typed). Some c.kind) columns ≡ kinds
+  pub kinds_are : map (λ (c : Series). Some c.kind) columns ≡ kinds
   pub heights : AllOfHeight height columns
   pub small : height ≤ max_rows
 

@@ -1,36 +1,35 @@
 // What a zip takes.
 ghost use Rattle.std.specs.Prelude.{◌≡◌, ◌≤◌, [], IfOk, IsSome, IsTrue, MatchResult, OnOk, Some, length, map};
 ghost use Rattle.std.specs.List.{AllByRecursion, AllZip};
-ghost use Rattle.ps_eval.specs.Held.{first_bad};
+ghost use Rattle.ps_expr_eval.specs.Held.{first_bad};
 ghost use Rattle.ps_frame.specs.Aggregates.{max_rows};
 ghost use Rattle.ps_frame.specs.Frames.{broadcast_to, kinds_of};
-ghost use Rattle.ps_frame.specs.Lawful.{FitsFrame};
 ghost use Rattle.ps_frame.specs.Tables.{columns_of, field_kind, whole};
 ghost use Rattle.ps_frame.specs.Trees.{IsExpression, Tree as ATree, tree_at};
-ghost use Rattle.ps_frame.specs.Typed.{all_fit};
+ghost use Rattle.ps_frame.specs.Series.{all_fit};
 ghost use Rattle.ps_frame.specs.Typing.{kind_over};
-ghost use Rattle.ps_plan.specs.Steps.{key_trees};
+ghost use Rattle.ps_meaning.specs.Steps.{key_trees};
 ghost use Rattle.ps_zip.specs.Inputs.{AddsExprs, CanStand, FitsItsKind, HasFaultAt, Holds, IsColumnAt, IsExprInput, ending_in, kind_in};
 ghost use Rattle.ps_zip.specs.Zips.{AreTypedOver};
 ghost use Rattle.ps_zip.specs.declared.inputs.Input.TheVariants as input;
 
-use ps_eval::evaluate::part_of;
-use ps_eval::lengths::Ending;
-use ps_eval::part::Part;
+use ps_expr_eval::computed::ComputedColumn;
+use ps_expr_eval::evaluate::part_of;
+use ps_expr_eval::lengths::Ending;
 use ps_frame::column::Column;
 use ps_frame::expr::{AExpr, entry};
 use ps_frame::frame::DataFrame;
 use ps_frame::value::{DataFault, DataType};
-use ps_plan::ir::ExprIR;
-use pu_index::{Arena, Node};
-use pu_order::PlSmallStr;
+use ps_meaning::options::ExprIR;
+use ps_tables::fits::table_fits;
+use pu_base::{Arena, Node, PlSmallStr};
 use std::alloc::{AllocError, Global};
 
 /// A column of the table, or one that was computed.
 #[derive(Drop)]
 pub enum Input {
     Table(Column),
-    Computed(Part),
+    Computed(ComputedColumn),
 }
 
 impl Input {
@@ -68,7 +67,7 @@ impl Input {
 
 fn computed_at_height(
     alloc: Global,
-    part: Part,
+    part: ComputedColumn,
     height: usize,
 ) -> Result<Result<Column, DataFault>, AllocError>
     requires { CanStand height (input.Computed part) }
@@ -134,6 +133,7 @@ fn table_input(alloc: Global, column: &Column) -> Result<Input, AllocError>
     ensures shared { IfOk result (λ i. i ≡ input.Table column.now) }
     ensures fits { IsTrue (all_fit column.now.kind column.now.values) }
 {
+    // A law: the values that are shared are of the kind.
     column.values_fit();
     match column.share(alloc) {
         Ok(column) => Ok(Input::Table(column)),
@@ -199,21 +199,7 @@ fn computed_input(
     requires kind { IsSome (kind_over df.now.schema (tree_at arena.now.items expr)) }
     ensures { IfOk result (IsExprInput df.now (tree_at arena.now.items expr)) }
 {
+    // A law: over a table whose values are of its kinds a column comes out of the kind of its expression.
     table_fits(df);
     Ok(Input::Computed(part_of(alloc, expr, arena, df)?))
-}
-
-// The values of a table are of the kinds of its fields: a law for proofs.
-fn table_fits(df: &DataFrame)
-    ensures { FitsFrame df.now }
-{
-    columns_fit(df.get_columns());
-}
-
-fn columns_fit(columns: &[Column])
-    ensures { AllByRecursion (λ c. IsTrue (all_fit c.kind c.values)) columns.now }
-{
-    for column in columns {
-        column.values_fit();
-    }
 }

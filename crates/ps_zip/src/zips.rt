@@ -6,22 +6,22 @@ ghost use Rattle.ps_frame.specs.Trees.{tree_at};
 ghost use Rattle.ps_frame.specs.Zip.{zipped};
 ghost use Rattle.ps_frame.specs.declared.refusal.PolarsError.TheVariants as error;
 ghost use Rattle.ps_frame.specs.declared.value.DataFault.{DataFault as AFault};
-ghost use Rattle.ps_plan.specs.Cases.{columns_at, keyed};
-ghost use Rattle.ps_plan.specs.Errors.{fault_error};
-ghost use Rattle.ps_plan.specs.Steps.{key_trees};
+ghost use Rattle.ps_meaning.specs.Cases.{columns_at, keyed};
+ghost use Rattle.ps_meaning.specs.Errors.{fault_error};
+ghost use Rattle.ps_meaning.specs.Steps.{key_trees};
 ghost use Rattle.ps_zip.specs.Inputs.{AreSideBySide, CanStand, FitsItsKind, IsColumnAt, IsFaultIn, SomeFaultAt, early_in, ending_in, height_in};
 ghost use Rattle.ps_zip.specs.Zips.{AreTypedOver, IsZipError, KeepsZip, expr_kinds, keyed_kinds};
 
-use crate::faults::fault_at;
 use crate::inputs::{Input, push_exprs, table_inputs};
-use ps_eval::lengths::{Ending, count_rows, early_fault};
+use ps_expr_eval::lengths::{Ending, count_rows, early_fault};
 use ps_frame::column::Column;
 use ps_frame::expr::AExpr;
 use ps_frame::frame::DataFrame;
-use ps_frame::refusal::{PolarsError, PolarsResult};
+use ps_frame::refusal::PolarsResult;
 use ps_frame::value::DataFault;
-use ps_plan::ir::ExprIR;
-use pu_index::{Arena, Node};
+use ps_meaning::faults::fault_at;
+use ps_meaning::options::ExprIR;
+use pu_base::{Arena, Node};
 use std::alloc::{AllocError, Global};
 
 /// Columns of one height.
@@ -98,10 +98,9 @@ fn zip_whole(alloc: Global, at: Node, inputs: Vec<Input>, height: usize) -> Pola
     if height > u32::MAX as usize {
         return Err(fault_at(at, DataFault::Rows));
     }
-    match columns_in_rows(alloc, inputs, height) {
-        Ok(Ok(columns)) => Ok(Zip { columns, height }),
-        Ok(Err(fault)) => Err(fault_at(at, fault)),
-        Err(_) => Err(PolarsError::OutOfMemory),
+    match columns_in_rows(alloc, inputs, height)? {
+        Ok(columns) => Ok(Zip { columns, height }),
+        Err(fault) => Err(fault_at(at, fault)),
     }
 }
 

@@ -5,7 +5,6 @@ pub mod Listings
 pub mod Marks
 pub mod Padded
 pub mod Pairings
-pub mod Pairs
 pub mod Places
 pub mod PlacesBlock
 pub mod PlacesCross

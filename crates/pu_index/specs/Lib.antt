@@ -1,10 +1,10 @@
-pub mod ArenaLends
+pub use Rattle.pu_base.specs.ArenaLends
 pub mod Calls
 pub mod ChunkSteps
 pub mod ChunksLeft
 pub mod Compared
 pub mod Counted
-pub mod Entries
+pub use Rattle.pu_base.specs.Entries
 pub mod FixedRing
 pub mod Idx
 pub mod InMemory

@@ -2,9 +2,9 @@
 ghost use Rattle.std.specs.Prelude.{◌≡◌, ◌++◌, List, IfOk, OnErr, Err, encode_utf8, string_bytes};
 ghost use Rattle.std.specs.Iterator.{Drains, IsFinite};
 ghost use Rattle.pu_index.specs.Listed.{ShownBy, listed};
-ghost use Rattle.pu_order.specs.declared.error.PolarsUtilsError.TheVariants as refusal;
+ghost use Rattle.pu_base.specs.declared.error.PolarsUtilsError.TheVariants as refusal;
 
-use pu_order::Result;
+use pu_base::Result;
 use std::alloc::Global;
 use std::fmt::Display;
 

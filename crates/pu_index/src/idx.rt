@@ -2,9 +2,9 @@
 ghost use Rattle.std.specs.Prelude.{◌≡◌, ◌≢◌, ℕ, ◌↔◌, ◌<◌, ◌≤◌, All, Contains, IsOk, IfErr, IsTrue, pos};
 ghost use Rattle.std.specs.Option.{SomeIff};
 ghost use Rattle.std.specs.Int.{w32, FitsUnsigned};
-ghost use Rattle.pu_order.specs.declared.error.PolarsUtilsError.TheVariants as refusal;
+ghost use Rattle.pu_base.specs.declared.error.PolarsUtilsError.TheVariants as refusal;
 
-use pu_order::{PolarsUtilsError, Result};
+use pu_base::{PolarsUtilsError, Result};
 use std::fmt;
 
 /// The number of a row.

@@ -4,11 +4,11 @@ ghost use Rattle.std.specs.Bool.{OnTrue, OnFalse};
 ghost use Rattle.std.specs.Iterator.{Drains, YieldsThen, IsFinite, IsFiniteIterable, size};
 ghost use Rattle.pu_index.specs.Compared.{AllAlike, ComparesByEq, ComparesByPartialCmp};
 ghost use Rattle.pu_index.specs.Counted.{source, number};
-ghost use Rattle.pu_order.specs.declared.error.PolarsUtilsError.TheVariants as refusal;
+ghost use Rattle.pu_base.specs.declared.error.PolarsUtilsError.TheVariants as refusal;
 
 use crate::idx::IdxSize;
 use num_traits::{FromPrimitive, Integral, One, Zero};
-use pu_order::Result;
+use pu_base::Result;
 use std::alloc::Global;
 use std::cmp::Ordering;
 use std::iter::{DoubleEndedIterator, ExactSizeIterator, FromIterator};

@@ -1,7 +1,6 @@
 // Lists: arenas, small vectors, rings, searches and readers.
 #![tactic(auto)]
 
-pub mod arena;
 pub mod chunk_id;
 pub mod chunks;
 pub mod fmt;
@@ -16,7 +15,6 @@ pub mod slices;
 pub mod unit_vec;
 pub mod vecs;
 
-pub use arena::{Arena, Node};
 pub use chunk_id::{ChunkId, DEFAULT_CHUNK_BITS};
 pub use chunks::Chunks;
 pub use idx::{AtomicIdxSize, IdxSize, NonZeroIdxSize, NullableIdxSize, ToIdx, check_bounds};
@@ -27,6 +25,7 @@ pub use iterators::{
 };
 pub use mem_reader::MemReader;
 pub use mem_slice::MemSlice;
+pub use pu_base::{Arena, Node, arena};
 pub use ring::FixedRingBuffer;
 pub use search::{
     exponential_search_by, find_first_ge_index, find_first_gt_index, partition_point_exponential,
@@ -36,6 +35,3 @@ pub use slices::{
 };
 pub use unit_vec::{IdxVec, UnitVec};
 pub use vecs::{convert, convert_owned, fill_or_alloc, inplace_zip_filtermap, push_unchecked};
-
-#[cfg(test)]
-mod tests;

@@ -1,11 +1,11 @@
 // Bytes that are read from their start on.
 ghost use Rattle.std.specs.Prelude.{◌≡◌, ◌↔◌, ◌+◌, ◌-◌, ◌<◌, ◌≤◌, ◌++◌, ◌≤ℤ◌, pos, length, take, drop, min, IfOk, IsOk, OnOk, OnErr, Err};
 ghost use Rattle.pu_index.specs.Reader.{reader, unread, seek_target};
-ghost use Rattle.pu_order.specs.declared.error.PolarsUtilsError.TheVariants as refusal;
+ghost use Rattle.pu_base.specs.declared.error.PolarsUtilsError.TheVariants as refusal;
 
 use crate::mem_slice::MemSlice;
 use bytes::Bytes;
-use pu_order::{PolarsUtilsError, Result};
+use pu_base::{PolarsUtilsError, Result};
 use std::io::SeekFrom;
 use std::marker::Model;
 

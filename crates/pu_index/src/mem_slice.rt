@@ -1,9 +1,9 @@
 // Bytes with several owners.
 ghost use Rattle.std.specs.Prelude.{◌≡◌, ◌↔◌, ◌<◌, ◌≤◌, ◌^◌, [], length, slice_range, IfOk, IsTrue, OnErr, Err};
-ghost use Rattle.pu_order.specs.declared.error.PolarsUtilsError.TheVariants as refusal;
+ghost use Rattle.pu_base.specs.declared.error.PolarsUtilsError.TheVariants as refusal;
 
 use bytes::Bytes;
-use pu_order::Result;
+use pu_base::Result;
 use std::alloc::Global;
 use std::convert::AsSlice;
 use std::marker::Model;

@@ -2,13 +2,13 @@
 ghost use Rattle.std.specs.Prelude.{◌≡◌, ◌↔◌, ◌+◌, ◌-◌, ◌^◌, ◌<◌, ◌≤◌, ◌++◌, ◌∷◌, [], length, min, replicate, IfOk, IsSome, IsTrue, OnErr, OnSome, IfNone, Err, MatchOption};
 ghost use Rattle.pu_index.specs.FixedRing.{ring, room};
 ghost use Rattle.pu_index.specs.Places.{Wraps};
-ghost use Rattle.pu_order.specs.declared.error.PolarsUtilsError.TheVariants as refusal;
+ghost use Rattle.pu_base.specs.declared.error.PolarsUtilsError.TheVariants as refusal;
 
 #[doc(hidden)]
 pub mod places;
 
 use places::{Deed, Places, allocate, deallocate};
-use pu_order::{PolarsUtilsError, Result};
+use pu_base::{PolarsUtilsError, Result};
 use std::alloc::Global;
 use std::marker::Model;
 use std_alloc::room::may_hold;

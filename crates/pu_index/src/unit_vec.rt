@@ -5,7 +5,7 @@ ghost use Rattle.std.specs.Slice.Iter.{iter_rest, iter_mut_rest};
 ghost use Rattle.std.specs.Iterator.{Drains, HoldsAlong, IsFinite, size};
 ghost use Rattle.std.specs.Borrow.{sem};
 ghost use Rattle.pu_index.specs.UnitVec.{short, grown};
-ghost use Rattle.pu_order.specs.declared.error.PolarsUtilsError.TheVariants as refusal;
+ghost use Rattle.pu_base.specs.declared.error.PolarsUtilsError.TheVariants as refusal;
 
 #[doc(hidden)]
 pub mod in_memory;
@@ -13,7 +13,7 @@ pub mod in_memory;
 use crate::idx::IdxSize;
 use crate::iterators::collect_vec;
 use in_memory::InMemory;
-use pu_order::Result;
+use pu_base::Result;
 use std::alloc::Global;
 use std::convert::AsSlice;
 use std::marker::Model;

@@ -3,10 +3,10 @@ ghost use Rattle.std.specs.Prelude.{◌≡◌, ◌+◌, ◌<◌, ◌++◌, ◌�
 ghost use Rattle.std.specs.Fn.{CalledAt};
 ghost use Rattle.std.specs.VecDeque.{deque_len, deque_capacity};
 ghost use Rattle.pu_index.specs.Calls.{Calls, Filters, kept};
-ghost use Rattle.pu_order.specs.declared.error.PolarsUtilsError.TheVariants as refusal;
+ghost use Rattle.pu_base.specs.declared.error.PolarsUtilsError.TheVariants as refusal;
 
 use num_traits::Zero;
-use pu_order::Result;
+use pu_base::Result;
 use std::alloc::Global;
 use std::collections::VecDeque;
 use std::mem;

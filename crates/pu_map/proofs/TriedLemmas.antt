@@ -5,7 +5,7 @@ use Rattle.std.specs.Borrow.{RattleType, MutBor, sem}
 use seplogic.Ra.Ura.{Ura}
 use base.Logic.{ent, id⊢}
 use types.Logic.{Logic}
-use Rattle.pu_order.specs.declared.error.PolarsUtilsError.TheVariants as refusal
+use Rattle.pu_base.specs.declared.error.PolarsUtilsError.TheVariants as refusal
 use Rattle.pu_map.specs.declared.cache.Refusal.{Refusal}
 use Rattle.pu_map.specs.declared.cache.Refusal.TheVariants.{OutOfMemory, Function}
 use Rattle.pu_map.specs.Cache.{CacheState, set_apart}

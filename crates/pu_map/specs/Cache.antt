@@ -6,9 +6,9 @@ use Rattle.std.specs.Borrow.{Bor}
 use Rattle.std.specs.Fn.{Once, FnOnceReturnsAt}
 use Rattle.std.specs.Hash.{HashWrites}
 use Rattle.std.specs.Hash.FoldHasher as folding
-use Rattle.pu_order.specs.Hashing.{partition_of}
-use Rattle.pu_order.specs.declared.error.PolarsUtilsError.{PolarsUtilsError}
-use Rattle.pu_order.specs.declared.error.PolarsUtilsError.TheVariants as refusal
+use Rattle.pu_partition.specs.Partitions.{partition_of}
+use Rattle.pu_base.specs.declared.error.PolarsUtilsError.{PolarsUtilsError}
+use Rattle.pu_base.specs.declared.error.PolarsUtilsError.TheVariants as refusal
 use Rattle.pu_map.specs.declared.cache.CacheSlot.{CacheSlot}
 use Rattle.pu_map.specs.declared.cache.Refusal.{Refusal}
 use Rattle.pu_map.specs.declared.cache.Refusal.TheVariants.{OutOfMemory, Function}

@@ -1,7 +1,7 @@
 -- Chains: for each bucket the numbers of its keys, from the last one that was put in to the first.
 -- A place is one more than a number, and 0 is the end of a chain.
 use Rattle.std.specs.Prelude.{◌≡◌, ◌≢◌, ℕ, ◌-◌, ◌*◌, ◌%◌, ◌^◌, ◌<◌, ◌≤◌, List, length, slice_index}
-use Rattle.pu_order.specs.Hashing.{partition_of}
+use Rattle.pu_partition.specs.Partitions.{partition_of}
 
 -- the bucket of a hash among so many
 abbrev pub bucket_of : ℕ → ℕ → ℕ → ℕ

@@ -1,9 +1,9 @@
 //! The maps and sets of the engine, over std's fixed hash states.
 ghost use Rattle.std.specs.Prelude.{IfOk, OnErr, ◌≡◌, ◌≤◌, ℕ, Err};
-ghost use Rattle.pu_order.specs.declared.error.PolarsUtilsError.TheVariants as refusal;
+ghost use Rattle.pu_base.specs.declared.error.PolarsUtilsError.TheVariants as refusal;
 
 use indexmap::{IndexMap, IndexSet};
-use pu_order::Result;
+use pu_base::Result;
 use std::alloc::Global;
 use std::collections::{HashMap, HashSet};
 use std::hash::{BuildHasherDefault, FoldHasher, Hash};

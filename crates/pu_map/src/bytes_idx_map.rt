@@ -5,7 +5,7 @@
 //! that is there isn't copied again.
 ghost use Rattle.std.specs.Prelude.{◌≡◌, ℕ, ◌+◌, ◌-◌, ◌<◌, ◌≤◌, ◌^◌, ◌↔◌, List, [], ◌∷◌, ◌++◌, length, slice_get, Some, Err, IsTrue, IsOk, IsSome, IfSome, IfNone, IfOk, IfErr, OnOk, OnErr, option_copied};
 ghost use Rattle.std.specs.Borrow.{sem};
-ghost use Rattle.pu_order.specs.declared.error.PolarsUtilsError.TheVariants as refusal;
+ghost use Rattle.pu_base.specs.declared.error.PolarsUtilsError.TheVariants as refusal;
 ghost use Rattle.pu_map.specs.Keys.{Key, IsAbsent, AreDistinct};
 ghost use Rattle.pu_map.specs.BytesMap.{StandsAt};
 
@@ -15,7 +15,7 @@ mod iter;
 use crate::key_table::KeyTable;
 pub use entry::{Entry, OccupiedEntry, VacantEntry};
 pub use iter::{HashKeys, Values};
-use pu_order::Result;
+use pu_base::Result;
 use std::alloc::Global;
 use std::convert::AsSlice;
 use std::marker::Model;

@@ -3,10 +3,11 @@ ghost use Rattle.std.specs.Prelude.{◌≡◌, ℕ, ◌<◌, ◌≤◌, ◌/◌,
 ghost use Rattle.std.specs.Option.{option_copied_mut, UnwrapsOrElse};
 ghost use Rattle.std.specs.Int.{IsPowerOfTwo};
 ghost use Rattle.std.specs.Borrow.{sem};
-ghost use Rattle.pu_order.specs.declared.error.PolarsUtilsError.TheVariants as refusal;
+ghost use Rattle.pu_base.specs.declared.error.PolarsUtilsError.TheVariants as refusal;
 ghost use Rattle.pu_map.specs.Cache.{key_hash, first_place, second_place, slot_at, place_of, place_to_fill, value_at, touched, filled, AnswersCopy, set_apart};
 
-use pu_order::{PolarsUtilsError, Result, hash_to_partition};
+use pu_base::{PolarsUtilsError, Result};
+use pu_partition::hash_to_partition;
 use std::alloc::{AllocError, Global};
 use std::hash::{FoldHasher, Hash, Hasher};
 use std::marker::Model;
@@ -377,6 +378,7 @@ impl<K: Hash + Eq, V> FastFixedCache<K, V> {
             }
             None => {
                 let place = self.place_to_fill(key);
+                // Matches, since neither error converts to a `Refusal`.
                 let copy = match key.clone() {
                     Ok(copy) => copy,
                     Err(_) => return Err(Refusal::OutOfMemory),

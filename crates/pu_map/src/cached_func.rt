@@ -2,12 +2,12 @@
 ghost use Rattle.std.specs.Prelude.{◌≡◌, ℕ, ◌<◌, ◌≤◌, ◌/◌, ◌^◌, max, length, true, false, Some, None, Err, IfSome, IfOk, OnErr};
 ghost use Rattle.std.specs.Fn.{AlwaysReturns};
 ghost use Rattle.std.specs.Int.{IsPowerOfTwo};
-ghost use Rattle.pu_order.specs.declared.error.PolarsUtilsError.TheVariants as refusal;
+ghost use Rattle.pu_base.specs.declared.error.PolarsUtilsError.TheVariants as refusal;
 ghost use Rattle.pu_map.specs.Cache.{key_hash, slot_at, place_of, place_to_fill, value_at, touched, filled};
 ghost use Rattle.pu_map.specs.CachedFunc.{DependsOnArgument, Computes};
 
 use crate::cache::FastFixedCache;
-use pu_order::Result;
+use pu_base::Result;
 use std::alloc::Global;
 use std::hash::Hash;
 

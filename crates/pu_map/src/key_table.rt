@@ -7,7 +7,7 @@ ghost use Rattle.pu_map.specs.Chains.{IsChained, bucket_of};
 ghost use Rattle.pu_map.specs.Links.{hashes, nexts, key_of, keys_of, IsSound, stored};
 ghost use Rattle.pu_map.specs.Keys.{IsAbsent, AreDistinct};
 
-use pu_order::hash_to_partition;
+use pu_partition::hash_to_partition;
 use std::alloc::{AllocError, Global};
 use std::marker::Model;
 

@@ -8,8 +8,6 @@ pub mod cached_func;
 mod key_table;
 pub mod partitioned;
 pub mod sketch;
-#[cfg(test)]
-mod tests;
 
 pub use aliases::{
     InitHashMaps, PlHashMap, PlHashSet, PlIndexMap, PlIndexSet, PlRandomState, PlRandomStateQuality,

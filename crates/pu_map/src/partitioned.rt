@@ -1,11 +1,11 @@
 //! Maps, one a partition of the hashes.
 ghost use Rattle.std.specs.Prelude.{◌≡◌, ◌<◌, length, slice_get, Some};
 ghost use Rattle.std.specs.Borrow.{sem};
-ghost use Rattle.pu_order.specs.Hashing.{partition_of};
+ghost use Rattle.pu_partition.specs.Partitions.{partition_of};
 ghost use Rattle.pu_map.specs.Partitioned.{lends_map, lends_maps};
 
 use crate::aliases::PlHashMap;
-use pu_order::hash_to_partition;
+use pu_partition::hash_to_partition;
 use std::marker::Model;
 
 /// A hash map for each partition of the hashes.

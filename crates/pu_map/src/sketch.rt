@@ -1,9 +1,9 @@
 //! A sketch of how many different hashes were seen: 256 registers, each a maximum over the hashes that fall to it.
 ghost use Rattle.std.specs.Prelude.{◌≡◌, ℕ, ◌++◌, ◌∷◌, [], List, replicate, length, slice_set, slice_index, max, ◌<◌, IfOk, OnErr, Err};
-ghost use Rattle.pu_order.specs.declared.error.PolarsUtilsError.TheVariants as refusal;
+ghost use Rattle.pu_base.specs.declared.error.PolarsUtilsError.TheVariants as refusal;
 ghost use Rattle.pu_map.specs.Sketch.{with_hash, combined, sketch_of};
 
-use pu_order::Result;
+use pu_base::Result;
 use std::alloc::Global;
 use std::marker::Model;
 

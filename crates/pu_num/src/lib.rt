@@ -5,8 +5,6 @@ pub mod abs_diff;
 pub mod floor_divmod;
 pub mod is_float;
 pub mod min_max;
-#[cfg(test)]
-mod tests;
 
 pub use abs_diff::AbsDiff;
 pub use floor_divmod::FloorDivMod;

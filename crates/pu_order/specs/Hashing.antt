@@ -10,10 +10,6 @@ combined l r = bit_xor l ((r + (0x9e3779b9 + l * 2 ^ 6 + r / 2 ^ 2)) % 2 ^ 64)
 abbrev pub folded_product : ℕ → ℕ → ℕ
 folded_product a b = bit_xor (a * b % 2 ^ 64) (a * b / 2 ^ 64)
 
--- the part of n equal parts of the 64-bit numbers in which h lies
-abbrev pub partition_of : ℕ → ℕ → ℕ
-partition_of h n = h * n / 2 ^ 64
-
 -- the odd number by which a partitioner of this seed multiplies its hashes
 abbrev pub multiplier_of : ℕ → ℕ
 multiplier_of seed =

@@ -4,3 +4,4 @@ pub mod BytesHash
 pub mod Hashing
 pub mod Partitioning
 pub mod TotalHash
+pub use Rattle.pu_partition.specs.Partitions

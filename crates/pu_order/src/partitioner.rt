@@ -1,17 +1,11 @@
-// Hashes to partitions: each hash has one of n partitions, by where it lies among the 64-bit numbers.
+// Hashes to partitions by a seed.
 ghost use Rattle.std.specs.Prelude.{◌≡◌, ◌*◌, ◌%◌, ◌^◌, ◌<◌};
-ghost use Rattle.pu_order.specs.Hashing.{partition_of, multiplier_of};
+ghost use Rattle.pu_order.specs.Hashing.{multiplier_of};
+ghost use Rattle.pu_partition.specs.Partitions.{partition_of};
 
 use crate::hashing::folded_multiply;
+pub use pu_partition::hash_to_partition;
 use std::marker::Model;
-
-/// The partition of a hash among `n_partitions`: `floor(h * n_partitions / 2^64)`, so 0 where there are none.
-pub fn hash_to_partition(h: u64, n_partitions: usize) -> usize
-    ensures value { result ≡ partition_of h n_partitions }
-    ensures below { 0 < n_partitions → result < n_partitions }
-{
-    ((h as u128 * n_partitions as u128) >> 64) as usize
-}
 
 /// Partitions hashes by a seed: partitioners of one number of partitions and one seed agree on every hash.
 #[derive(Clone, Drop)]

@@ -7,7 +7,7 @@ use ps_frame::error::FrameError;
 use ps_frame::frame::DataFrame;
 use ps_frame::schema::Schema;
 use ps_frame::value::{DataType, Value};
-use pu_order::PlSmallStr;
+use pu_base::PlSmallStr;
 use std::alloc::Global;
 
 const LETTERS: usize = 8;
@@ -15,6 +15,7 @@ const LETTERS: usize = 8;
 fn name(alloc: Global, text: &str) -> Result<PlSmallStr, FrameError> {
     match PlSmallStr::from_str(alloc, text) {
         Ok(name) => Ok(name),
+        // A text's own error doesn't convert by `?`; it is want of memory alone.
         Err(_) => Err(FrameError::OutOfMemory),
     }
 }

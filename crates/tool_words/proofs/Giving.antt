@@ -3,7 +3,7 @@ use Rattle.std.proofs.Common.{◌≡◌, ◌⊎◌, inl, inr, ℕ, ◌<◌, ◌^
 use Rattle.std.specs.Prelude.{false, Option, Some, None, All, codes, map, string_bytes, unwrap_or}
 use Rattle.std.specs.List.{flat_map}
 use Rattle.std.proofs.lemmas.List.Elements.{All-contains, All-nil}
-use Rattle.ps_nodes.specs.declared.options.Options.{Options}
+use Rattle.ps_options.specs.declared.options.Options.{Options}
 use Rattle.tool_words.specs.Told.{IsSet, IsTold, MayStand, told_at}
 use Rattle.tool_words.specs.Words.{Give, IsAllowed, IsInRange, IsRun, IsRunWith, IsSetOrDefault, Number, Setting, words_of}
 use Rattle.tool_words.specs.declared.settings.Kind.{Kind}

@@ -2,7 +2,8 @@
 use Rattle.std.proofs.Common.{◌≡◌, ◌≢◌, ◌⊎◌, ◌↔◌, inl, inr, ℕ, ◌<◌, List, [], ◌∷◌, length, get_or, refl, sym, ◌∙◌, ap, subst, arith, Global, String}
 use Rattle.std.specs.Prelude.{Bool, true, false, Option, Some, None, IsTrue, IfSome, IfNone, AllPairs, Contains, codes, map, string_bytes}
 use Rattle.std.specs.List.{flat_map}
-use Rattle.ps_nodes.specs.declared.options.Options.{Options}
+use Rattle.ps_options.specs.declared.options.Options.{Options}
+use Rattle.ps_options.proofs.SameOptions.{same-options}
 use Rattle.std.proofs.lemmas.Bool.{cases_order}
 use Rattle.std.proofs.lemmas.List.{get_or_default}
 use Rattle.tool_words.proofs.Giving.{same-rest}
@@ -52,7 +53,7 @@ module _ (settings : List Setting) (differ : AllPairs (λ s t. flag_of s ≢ fla
       let q = one-number Partitions 16 o.partitions p.partitions f.partitions g.partitions in
       let s = one-number Seed 0 o.seed p.seed f.seed g.seed in
       let c = one-choice a b f.serial_is g.serial_is in
-      λ i. Run (record { workers = w i; morsel_rows = r i; partitions = q i; seed = s i }) (c i)
+      λ i. Run (same-options o p w r q s i) (c i)
 
 pub not-help : (words : List (String Global)) → IsRun words → ¬ IsHelp words
 not-help words (settings, run) h = let f : codes "run" ∷ flat_map words_of settings ≡ codes "--help" ∷ [] = sym run.words_are ∙ h in cc

@@ -4,7 +4,7 @@ use Rattle.std.specs.Char.{is_ascii_digit}
 use Rattle.std.specs.List.{flat_map, list_all}
 use Rattle.std.specs.Str.Parse.{digits_value}
 use Rattle.std.specs.declared.alloc.Global.{Global}
-use Rattle.ps_nodes.specs.declared.options.Options.{Options}
+use Rattle.ps_options.specs.declared.options.Options.{Options}
 use Rattle.tool_words.specs.declared.command.Command.{Command}
 use Rattle.tool_words.specs.declared.command.Command.TheVariants.{Run, Help, Version}
 use Rattle.tool_words.specs.declared.settings.Kind.{Kind}

@@ -1,12 +1,12 @@
 //! The commands of the program.
 ghost use Rattle.std.specs.Prelude.{◌≡◌, ◌∷◌, Bool, List, String, Some, IfSome, IfNone, codes, map, string_bytes};
 ghost use Rattle.std.specs.declared.alloc.Global.{Global};
-ghost use Rattle.ps_nodes.specs.declared.options.Options.{Options};
+ghost use Rattle.ps_options.specs.declared.options.Options.{Options};
 ghost use Rattle.tool_words.specs.declared.command.Command.{Command};
 ghost use Rattle.tool_words.specs.Words.{AreWords, IsCommand, IsRun};
 
 use crate::settings::{Told, read_settings};
-use ps_nodes::options::Options;
+use ps_options::options::Options;
 
 /// What the program is asked to do.
 #[derive(Clone, Copy, Debug, PartialEq, Eq)]

@@ -3,5 +3,3 @@
 
 pub mod command;
 mod settings;
-#[cfg(test)]
-mod tests;

@@ -66,9 +66,7 @@ impl<'a, K: Key, V> Iterator for Keys<'a, K, V> {
     ghost remaining = { item_count (λ rest. rest) };
 
     fn next(&mut self) -> Option<K> {
-        match self.pairs.next() {
-            Some((key, _)) => Some(key),
-            None => None,
-        }
+        let (key, _) = self.pairs.next()?;
+        Some(key)
     }
 }

@@ -54,6 +54,7 @@ pub(crate) fn allocate<T, A: Allocator>(
     requires { FitsInBlock T.row count }
     ensures { IfOk result (λ r. (r.0.slots ≡ replicate count None) × (r.1.base ≡ r.0.base) × (r.1.count ≡ count) × (r.1.alloc ≡ alloc.now)) }
 {
+    // A match, whose two arms the proof by hand follows.
     match alloc.allocate(count * size_of::<T>(), align_of::<T>()) {
         Ok(block) => {
             let base = block as *mut T;

@@ -1,9 +1,9 @@
 // Values that stand for others where std's equality and hash are asked for, and give them back.
 ghost use Rattle.std.specs.Prelude.{◌≡◌, refl, IfOk, OnErr, Err, string_bytes};
 
-use crate::error::{PolarsUtilsError, Result};
 use crate::hashing::BytesHash;
 use crate::total_ord::{TotalEq, TotalHash, TotalOrdWrap};
+use pu_base::{PolarsUtilsError, Result};
 use std::alloc::Global;
 use std::hash::Hash;
 

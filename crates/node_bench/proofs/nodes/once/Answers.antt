@@ -1,5 +1,5 @@
 use Rattle.std.proofs.Common.{sym, subst}
-use Rattle.pu_index.specs.declared.arena.Node.{Node}
+use Rattle.pu_base.specs.declared.arena.Node.{Node}
 use Rattle.ps_plan.specs.Graph.{Reached, here}
 use Rattle.ps_validate.specs.Valid.{plan_with}
 use Rattle.node_bench.proofs.nodes.once.Goals as goal

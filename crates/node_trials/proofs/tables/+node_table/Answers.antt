@@ -1,7 +1,6 @@
 use Rattle.std.proofs.Common.{◌<◌, List, length, sym, subst}
 use Rattle.ps_plan.proofs.ValidPlans.{reached-below}
 use Rattle.ps_plan.specs.declared.ir.IR.{IR}
-use Rattle.ps_tables.specs.Called.{functions_of}
 use Rattle.ps_validate.specs.Valid.{plan_with}
 use Rattle.ps_walks.specs.Fit.{plan_schemas}
 use Rattle.node_trials.proofs.Inputs.{all-fit, entry-there, input-reached, one-more}
@@ -9,7 +8,7 @@ use Rattle.node_trials.proofs.tables.+node_table.Goals as goal
 
 pub get-requires : goal.get-requires
 get-requires g t c =
-    let F = functions_of (g.F.Functions.counted c.args.functions.now) g.F.Functions.streams g.F.Functions.answer g.F.Functions.declared in
+    let F = g.F.Functions.told c.args.functions.now in
     subst (λ (ns : List IR). c.args.node.0 < length ns) (sym c.ir.ensures) (reached-below F (plan_with c.args.valid.now c.args.exprs.now.items) c.requires.valid.valid c.args.node.0 c.requires.reached)
 
 pub node_table-requires-clause-reached : goal.node_table-requires-clause-reached
@@ -20,13 +19,13 @@ node_table-requires-clause-reached g t c =
 
 pub loop-input-preserved : goal.loop-input-preserved
 loop-input-preserved g t c =
-    let F = functions_of (g.F.Functions.counted c.args.functions.now) g.F.Functions.streams g.F.Functions.answer g.F.Functions.declared in
+    let F = g.F.Functions.told c.args.functions.now in
     one-more (plan_schemas F (plan_with c.args.valid.now c.args.exprs.now.items)) c.push.new.self.items c.loop-input.tables.items c.in_ok-node_table.field-0 c.deref-input-items.result.now c.loop-input.input-index
     c.in_ok-push.ensures.items c.loop-input-test.true c.loop-input.invariant c.in_ok-node_table.ensures.schema
 
 pub evaluate_node-requires-clause-inputs : goal.evaluate_node-requires-clause-inputs
 evaluate_node-requires-clause-inputs g t c =
     λ κs within.
-    let F = functions_of (g.F.Functions.counted c.args.functions.now) g.F.Functions.streams g.F.Functions.answer g.F.Functions.declared in
+    let F = g.F.Functions.told c.args.functions.now in
     all-fit F (plan_with c.args.valid.now c.args.exprs.now.items) c.args.node.0 c.get.result.now c.as_slice.result.now c.loop-input.tables.items c.deref-input-items.result.now c.in_ok-inputs.inputs.items c.loop-input.input-index
     (entry-there c.args.valid.now.nodes c.ir.result.now.items c.args.node.0 c.get.result.now c.ir.ensures c.get.ensures) c.as_slice.ensures.value c.deref-input-items.ensures.value c.in_ok-inputs.ensures c.loop-input-test.false c.loop-input.invariant

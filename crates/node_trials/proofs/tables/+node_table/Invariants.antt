@@ -1,9 +1,8 @@
 use Rattle.std.proofs.Common.{◌≡◌, take}
-use Rattle.ps_tables.specs.Called.{functions_of}
 use Rattle.ps_validate.specs.Valid.{plan_with}
 use Rattle.ps_walks.specs.Accepted.{schemas_at}
 use Rattle.ps_walks.specs.Fit.{plan_schemas}
-use Rattle.ps_evaluate.specs.Ready.{frame_schemas}
+use Rattle.ps_node_eval.specs.Ready.{frame_schemas}
 use Rattle.node_trials.proofs.tables.+node_table.Given as goal
 
 abbrev pub decreases-node_table : goal.decreases-node_table
@@ -11,4 +10,4 @@ decreases-node_table g l = l.depth
 
 abbrev pub invariant-loop-input : goal.invariant-loop-input
 invariant-loop-input g l =
-    frame_schemas l.tables.items ≡ schemas_at (plan_schemas (functions_of (g.F.Functions.counted l.functions) g.F.Functions.streams g.F.Functions.answer g.F.Functions.declared) (plan_with l.valid l.exprs.items)) (take l.input-index l.input-items)
+    frame_schemas l.tables.items ≡ schemas_at (plan_schemas (g.F.Functions.told l.functions) (plan_with l.valid l.exprs.items)) (take l.input-index l.input-items)

@@ -1,7 +1,7 @@
-use Rattle.std.proofs.Common.{◌∷◌, [], ◌∙◌, sym}
+use Rattle.std.proofs.Common.{◌∷◌, []}
 use Rattle.serde_json.specs.View.{view}
-use Rattle.ps_document.proofs.Lists.{list_length-map}
+use Rattle.ps_document.proofs.Lists.{parts_length}
 use Rattle.ps_document.proofs.values.five.Goals as goal
 
-pub returns-else-items-eq5-clause-none : goal.returns-else-items-eq5-clause-none
-returns-else-items-eq5-clause-none c = λ a b d f g e. c.if-items-eq5.false (list_length-map view c.in_ok-items.items.now (a ∷ b ∷ d ∷ f ∷ g ∷ []) (sym c.in_ok-items.ensures.some ∙ e))
+pub returns-else-parts-eq5-clause-none : goal.returns-else-parts-eq5-clause-none
+returns-else-parts-eq5-clause-none c = λ first a b d f g e. c.if-parts-eq5.false (parts_length view first c.args.parts.now (a ∷ b ∷ d ∷ f ∷ g ∷ []) e)

@@ -1,7 +1,6 @@
 use Rattle.std.proofs.Common.{subst, sym}
 use Rattle.ps_survey.specs.Flaws.{plan_of}
 use Rattle.ps_survey.specs.Surveys.{IsSurvey}
-use Rattle.ps_tables.specs.Called.{functions_of}
 use Rattle.ps_validate.proofs.Planning.{survey-of}
 use Rattle.ps_exec.proofs.Running.{plan-named, survey-query-error}
 use Rattle.ps_exec.specs.Queries.{IsQueryError}
@@ -15,6 +14,6 @@ run_in_order-requires-clause-survey g c =
 
 pub returns-in-Err-clause-error : goal.returns-in-Err-clause-error
 returns-in-Err-clause-error g c =
-    let F = functions_of (g.F.Functions.counted c.args.functions.now) g.F.Functions.streams g.F.Functions.answer g.F.Functions.declared in
+    let F = g.F.Functions.told c.args.functions.now in
     subst (λ p. IsQueryError F p c.in-Err.error) (plan-named c.args.valid.now c.root.result c.ir.result.now.items c.args.exprs.now.items c.root.ensures c.ir.ensures)
     (survey-query-error F (plan_of c.root.result c.ir.result.now.items c.args.exprs.now.items) c.in-Err.error c.in-Err.ensures.refused)

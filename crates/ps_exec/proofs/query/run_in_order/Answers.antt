@@ -1,8 +1,7 @@
 use Rattle.std.proofs.Common.{◌<◌, ◌≤◌, ◌∙◌, ap, get_or, length, subst, sym}
 use Rattle.std.specs.List.{All}
-use Rattle.pu_index.specs.declared.arena.Node.{Node}
+use Rattle.pu_base.specs.declared.arena.Node.{Node}
 use Rattle.ps_survey.specs.Orders.{inputs_in}
-use Rattle.ps_tables.specs.Called.{functions_of}
 use Rattle.ps_validate.specs.Valid.{plan_with}
 use Rattle.ps_exec.proofs.Running.{inputs-within, nodes-within, root-within, run-answer, run-errors}
 use Rattle.ps_exec.specs.Readers.{IsWantedUntil}
@@ -32,7 +31,7 @@ walk-requires-clause-root g c =
     (subst (λ (r : Node). length c.args.order.now ≤ get_or c.in-Ok.until.items r.0 0) c.root.ensures c.in-Ok.ensures.root)
 
 pub returns-in-Ok-clause-table : goal.returns-in-Ok-clause-table
-returns-in-Ok-clause-table g c = run-answer (functions_of (g.F.Functions.counted c.args.functions.now) g.F.Functions.streams g.F.Functions.answer g.F.Functions.declared) (plan_with c.args.valid.now c.args.exprs.now.items) c.walk.result c.requires.valid.valid c.walk.ensures.table
+returns-in-Ok-clause-table g c = run-answer (g.F.Functions.told c.args.functions.now) (plan_with c.args.valid.now c.args.exprs.now.items) c.walk.result c.requires.valid.valid c.walk.ensures.table
 
 pub returns-in-Ok-clause-error : goal.returns-in-Ok-clause-error
-returns-in-Ok-clause-error g c = run-errors (functions_of (g.F.Functions.counted c.args.functions.now) g.F.Functions.streams g.F.Functions.answer g.F.Functions.declared) (plan_with c.args.valid.now c.args.exprs.now.items) c.walk.result c.requires.valid.valid c.walk.ensures.fault
+returns-in-Ok-clause-error g c = run-errors (g.F.Functions.told c.args.functions.now) (plan_with c.args.valid.now c.args.exprs.now.items) c.walk.result c.requires.valid.valid c.walk.ensures.fault

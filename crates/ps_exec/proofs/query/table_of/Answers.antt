@@ -1,21 +1,20 @@
 use Rattle.std.proofs.Common.{subst}
 use Rattle.std.specs.Prelude.{IfErr, IfOk}
 use Rattle.ps_survey.specs.Flaws.{plan_of}
-use Rattle.ps_tables.specs.Called.{functions_of}
 use Rattle.ps_exec.proofs.Running.{refusal-query-error, same-plan}
 use Rattle.ps_exec.specs.Queries.{IsQueryAnswer, IsQueryError}
 use Rattle.ps_exec.proofs.query.table_of.Goals as goal
 
 pub returns-in-Ok-clause-table : goal.returns-in-Ok-clause-table
 returns-in-Ok-clause-table g c =
-    subst (λ plan. IfOk c.run.result (IsQueryAnswer (functions_of (g.F.Functions.counted c.args.functions.now) g.F.Functions.streams g.F.Functions.answer g.F.Functions.declared) plan))
+    subst (λ plan. IfOk c.run.result (IsQueryAnswer (g.F.Functions.told c.args.functions.now) plan))
     (same-plan c.in-Ok.valid c.args.root c.args.ir.items c.args.exprs.now.items c.in-Ok.ensures.root c.in-Ok.ensures.nodes) c.run.ensures.table
 
 pub returns-in-Ok-clause-error : goal.returns-in-Ok-clause-error
 returns-in-Ok-clause-error g c =
-    subst (λ plan. IfErr c.run.result (IsQueryError (functions_of (g.F.Functions.counted c.args.functions.now) g.F.Functions.streams g.F.Functions.answer g.F.Functions.declared) plan))
+    subst (λ plan. IfErr c.run.result (IsQueryError (g.F.Functions.told c.args.functions.now) plan))
     (same-plan c.in-Ok.valid c.args.root c.args.ir.items c.args.exprs.now.items c.in-Ok.ensures.root c.in-Ok.ensures.nodes) c.run.ensures.error
 
 pub returns-clause-error : goal.returns-clause-error
 returns-clause-error g c =
-    refusal-query-error (functions_of (g.F.Functions.counted c.args.functions.now) g.F.Functions.streams g.F.Functions.answer g.F.Functions.declared) (plan_of c.args.root c.args.ir.items c.args.exprs.now.items) c.in-Err.error c.in-Err.ensures.refused
+    refusal-query-error (g.F.Functions.told c.args.functions.now) (plan_of c.args.root c.args.ir.items c.args.exprs.now.items) c.in-Err.error c.in-Err.ensures.refused

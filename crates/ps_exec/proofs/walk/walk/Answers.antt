@@ -3,15 +3,14 @@ use Rattle.std.specs.Prelude.{None, Some, replicate, slice_get}
 use Rattle.std.specs.List.{All}
 use Rattle.std.proofs.lemmas.Option.{slice_get-get_or, slice_get_within}
 use Rattle.std.proofs.lemmas.Result.{IfOk-weaker}
-use Rattle.pu_index.specs.declared.arena.Node.{Node}
+use Rattle.pu_base.specs.declared.arena.Node.{Node}
 use Rattle.ps_frame.specs.Tables.{whole}
-use Rattle.ps_plan.specs.Meaning.{IsMeaning}
+use Rattle.ps_meaning.specs.Meaning.{IsMeaning}
 use Rattle.ps_plan.specs.Plans.{tree_of}
-use Rattle.ps_plan.specs.Steps.{entry_inputs}
-use Rattle.ps_tables.specs.Called.{functions_of}
+use Rattle.ps_plan.specs.Entries.{entry_inputs}
 use Rattle.ps_validate.specs.Valid.{plan_with}
 use Rattle.ps_validate.proofs.Typed.{passed-on}
-use Rattle.ps_evaluate.specs.Nodes.{FitInputs, NodeFaults, NodeGives}
+use Rattle.ps_node_eval.specs.Nodes.{FitInputs, NodeFaults, NodeGives}
 use Rattle.ps_exec.proofs.Running.{run-error}
 use Rattle.ps_exec.proofs.Walking.{Walking, node-done, node-fault, node-fit, node-held, place-within, root-held, root-means, walking-first}
 use Rattle.ps_exec.specs.Held.{AreHeld, IsHeld, table_in, tables_in}
@@ -20,14 +19,14 @@ use Rattle.ps_exec.proofs.walk.walk.Goals as goal
 
 pub loop-place-init : goal.loop-place-init
 loop-place-init g c =
-    walking-first (functions_of (g.F.Functions.counted c.args.functions.now) g.F.Functions.streams g.F.Functions.answer g.F.Functions.declared) (plan_with c.args.valid.now c.args.exprs.now.items) c.args.order.now c.args.until.now c.in_ok-tables.tables
+    walking-first (g.F.Functions.told c.args.functions.now) (plan_with c.args.valid.now c.args.exprs.now.items) c.args.order.now c.args.until.now c.in_ok-tables.tables
     (c.in_ok-tables.ensures.none ∙ ap (λ k. replicate k None) (c.len.ensures ∙ ap length c.ir.ensures))
 
 pub get-requires : goal.get-requires
 get-requires g c =
     let n = get_or c.args.order.now c.loop-place.place 0 in
     subst (λ ns. n < length ns) (sym c.ir-in-loop-place.ensures)
-    (place-within (functions_of (g.F.Functions.counted c.args.functions.now) g.F.Functions.streams g.F.Functions.answer g.F.Functions.declared) (plan_with c.args.valid.now c.args.exprs.now.items) c.args.order.now c.args.until.now c.requires.survey c.requires.wanted
+    (place-within (g.F.Functions.told c.args.functions.now) (plan_with c.args.valid.now c.args.exprs.now.items) c.args.order.now c.args.until.now c.requires.survey c.requires.wanted
     c.loop-place.place n (slice_get-get_or c.args.order.now c.loop-place.place 0 c.loop-place-test.true))
 
 pub share_all-requires : goal.share_all-requires
@@ -35,21 +34,21 @@ share_all-requires g c =
     let n = get_or c.args.order.now c.loop-place.place 0 in
     let is = subst (λ ns. slice_get ns n ≡ Some c.get.result.now) c.ir-in-loop-place.ensures c.get.ensures in
     subst (λ ns. AreHeld c.loop-place.tables ns) (sym (c.as_slice.ensures.value ∙ c.in_ok-inputs.ensures.inputs))
-    (node-held (functions_of (g.F.Functions.counted c.args.functions.now) g.F.Functions.streams g.F.Functions.answer g.F.Functions.declared) (plan_with c.args.valid.now c.args.exprs.now.items) c.args.order.now c.args.until.now c.requires.survey c.requires.wanted
+    (node-held (g.F.Functions.told c.args.functions.now) (plan_with c.args.valid.now c.args.exprs.now.items) c.args.order.now c.args.until.now c.requires.survey c.requires.wanted
     c.loop-place.place c.loop-place.tables n c.get.result.now (slice_get-get_or c.args.order.now c.loop-place.place 0 c.loop-place-test.true) is c.loop-place.invariant)
 
 pub release-requires-clause-held : goal.release-requires-clause-held
 release-requires-clause-held g c =
     let n = get_or c.args.order.now c.loop-place.place 0 in
     let is = subst (λ ns. slice_get ns n ≡ Some c.get.result.now) c.ir-in-loop-place.ensures c.get.ensures in
-    let held = node-held (functions_of (g.F.Functions.counted c.args.functions.now) g.F.Functions.streams g.F.Functions.answer g.F.Functions.declared) (plan_with c.args.valid.now c.args.exprs.now.items) c.args.order.now c.args.until.now c.requires.survey c.requires.wanted
+    let held = node-held (g.F.Functions.told c.args.functions.now) (plan_with c.args.valid.now c.args.exprs.now.items) c.args.order.now c.args.until.now c.requires.survey c.requires.wanted
     c.loop-place.place c.loop-place.tables n c.get.result.now (slice_get-get_or c.args.order.now c.loop-place.place 0 c.loop-place-test.true) is c.loop-place.invariant in
     subst (λ ns. All (λ (m : Node). m.0 < length c.loop-place.tables) ns) (sym (c.as_slice-in-loop-place.ensures.value ∙ c.in_ok-inputs.ensures.inputs))
     (λ k d h. slice_get_within c.loop-place.tables (get_or (entry_inputs c.get.result.now) k d).0 (Some (held k d h).0) (held k d h).1)
 
 pub evaluate_node-requires-clause-inputs : goal.evaluate_node-requires-clause-inputs
 evaluate_node-requires-clause-inputs g c =
-    let F = functions_of (g.F.Functions.counted c.args.functions.now) g.F.Functions.streams g.F.Functions.answer g.F.Functions.declared in
+    let F = g.F.Functions.told c.args.functions.now in
     let plan = plan_with c.args.valid.now c.args.exprs.now.items in
     let n = get_or c.args.order.now c.loop-place.place 0 in
     let is = subst (λ ns. slice_get ns n ≡ Some c.get.result.now) c.ir-in-loop-place.ensures c.get.ensures in
@@ -60,7 +59,7 @@ evaluate_node-requires-clause-inputs g c =
 
 pub returns-in_err-table-clause-fault : goal.returns-in_err-table-clause-fault
 returns-in_err-table-clause-fault g c =
-    let F = functions_of (g.F.Functions.counted c.args.functions.now) g.F.Functions.streams g.F.Functions.answer g.F.Functions.declared in
+    let F = g.F.Functions.told c.args.functions.now in
     let plan = plan_with c.args.valid.now c.args.exprs.now.items in
     let n = get_or c.args.order.now c.loop-place.place 0 in
     let is = subst (λ ns. slice_get ns n ≡ Some c.get.result.now) c.ir-in-loop-place.ensures c.get.ensures in
@@ -74,7 +73,7 @@ returns-in_err-table-clause-fault g c =
 pub set-requires : goal.set-requires
 set-requires g c =
     let n = get_or c.args.order.now c.loop-place.place 0 in
-    let small = place-within (functions_of (g.F.Functions.counted c.args.functions.now) g.F.Functions.streams g.F.Functions.answer g.F.Functions.declared) (plan_with c.args.valid.now c.args.exprs.now.items) c.args.order.now c.args.until.now c.requires.survey c.requires.wanted
+    let small = place-within (g.F.Functions.told c.args.functions.now) (plan_with c.args.valid.now c.args.exprs.now.items) c.args.order.now c.args.until.now c.requires.survey c.requires.wanted
     c.loop-place.place n (slice_get-get_or c.args.order.now c.loop-place.place 0 c.loop-place-test.true) in
     let size = c.loop-place.invariant.size in
     let same = c.release.ensures.size in
@@ -82,7 +81,7 @@ set-requires g c =
 
 pub loop-place-preserved : goal.loop-place-preserved
 loop-place-preserved g c =
-    let F = functions_of (g.F.Functions.counted c.args.functions.now) g.F.Functions.streams g.F.Functions.answer g.F.Functions.declared in
+    let F = g.F.Functions.told c.args.functions.now in
     let plan = plan_with c.args.valid.now c.args.exprs.now.items in
     let n = get_or c.args.order.now c.loop-place.place 0 in
     let is = subst (λ ns. slice_get ns n ≡ Some c.get.result.now) c.ir-in-loop-place.ensures c.get.ensures in
@@ -93,7 +92,7 @@ loop-place-preserved g c =
 
 pub share-requires : goal.share-requires
 share-requires g c =
-    let F = functions_of (g.F.Functions.counted c.args.functions.now) g.F.Functions.streams g.F.Functions.answer g.F.Functions.declared in
+    let F = g.F.Functions.told c.args.functions.now in
     let plan = plan_with c.args.valid.now c.args.exprs.now.items in
     let ended : c.loop-place.place ≡ length c.args.order.now = omega arith in
     subst (λ r. IsHeld c.loop-place.tables r) (sym c.root.ensures)
@@ -102,7 +101,7 @@ share-requires g c =
 
 pub returns-clause-table : goal.returns-clause-table
 returns-clause-table g c =
-    let F = functions_of (g.F.Functions.counted c.args.functions.now) g.F.Functions.streams g.F.Functions.answer g.F.Functions.declared in
+    let F = g.F.Functions.told c.args.functions.now in
     let plan = plan_with c.args.valid.now c.args.exprs.now.items in
     let ended : c.loop-place.place ≡ length c.args.order.now = omega arith in
     let means = root-means F plan c.args.order.now c.args.until.now c.requires.survey c.requires.wanted c.loop-place.tables

@@ -3,7 +3,7 @@ use Rattle.std.proofs.lemmas.List.{take_all}
 use Rattle.std.proofs.lemmas.Option.{slice_get_read}
 use Rattle.ps_frame.proofs.Lists.{list_all-at}
 use Rattle.ps_frame.proofs.Packing.{pushed-more, was_taken}
-use Rattle.ps_frame.specs.Typed.{Typed}
+use Rattle.ps_frame.specs.Series.{Series}
 use Rattle.ps_frame.specs.Values.{fits_kind}
 use Rattle.ps_frame.specs.declared.value.Value.{Value}
 use Rattle.ps_frame.proofs.packed.pack.Goals as goal
@@ -23,4 +23,4 @@ loop-value-preserved c =
 pub returns-clause-same : goal.returns-clause-same
 returns-clause-same c =
     c.loop-value.invariant
-    ∙ ap (λ (values : List Value). let t : Typed = record { kind = c.args.dtype; values = values } in t) (take_all c.loop-value.value-index c.args.values.now (omega arith))
+    ∙ ap (λ (values : List Value). let t : Series = record { kind = c.args.dtype; values = values } in t) (take_all c.loop-value.value-index c.args.values.now (omega arith))

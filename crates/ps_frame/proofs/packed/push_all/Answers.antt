@@ -2,7 +2,7 @@ use Rattle.std.proofs.Common.{◌++◌, List, ap, ◌∙◌, arith}
 use Rattle.std.proofs.lemmas.List.{take_all}
 use Rattle.ps_frame.proofs.Lists.{list_all-at}
 use Rattle.ps_frame.proofs.Packing.{pushed-below, was_taken}
-use Rattle.ps_frame.specs.Typed.{Typed}
+use Rattle.ps_frame.specs.Series.{Series}
 use Rattle.ps_frame.specs.Values.{fits_kind}
 use Rattle.ps_frame.specs.declared.value.Value.{Value}
 use Rattle.ps_frame.proofs.packed.push_all.Goals as goal
@@ -20,4 +20,4 @@ pub returns-clause-added : goal.returns-clause-added
 returns-clause-added c = λ _.
     let start = c.args.packed.now in
     let values = c.args.column.now.values in
-    c.loop-i.invariant ∙ ap (λ (vs : List Value). let t : Typed = record { kind = start.kind; values = start.values ++ vs } in t) (take_all c.loop-i.i values (omega arith))
+    c.loop-i.invariant ∙ ap (λ (vs : List Value). let t : Series = record { kind = start.kind; values = start.values ++ vs } in t) (take_all c.loop-i.i values (omega arith))

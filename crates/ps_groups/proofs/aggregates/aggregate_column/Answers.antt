@@ -6,10 +6,10 @@ use Rattle.std.proofs.lemmas.Result.{IfOk-weaker}
 use Rattle.ps_frame.specs.Lawful.{FitsFrame}
 use Rattle.ps_frame.specs.Tables.{Fields, Frame}
 use Rattle.ps_frame.specs.Trees.{tree_at}
-use Rattle.ps_frame.specs.Typed.{Typed}
+use Rattle.ps_frame.specs.Series.{Series}
 use Rattle.ps_frame.specs.Typing.{kind_over}
 use Rattle.ps_groups.specs.Reductions.{Reduces}
-use Rattle.ps_groups.specs.Tables.{group_tables}
+use Rattle.ps_groups.specs.GroupTables.{group_tables}
 use Rattle.ps_groups.proofs.Reducing.{fit-over, is-aggregate, kinds-over, reduced-fit}
 use Rattle.ps_groups.proofs.aggregates.aggregate_column.Goals as goal
 
@@ -24,7 +24,7 @@ returns-in-Some-clause-column c =
     let t = tree_at c.args.arena.now.items c.args.expr in
     let reduces = subst (λ (s : Fields). Reduces s t c.in-Some.reduction) c.schema.ensures c.in-Some.ensures.reduces in
     IfOk-weaker c.reduced_column.result _ _
-    (λ column made. is-aggregate c.args.at.0 c.args.df.now c.args.numbering.now c.requires.groups t c.in-Some.reduction (omega (arith, c.height-height.ensures.rows, c.height-height.ensures.counted)) reduces column (ap (λ (x : Typed). x.values) made))
+    (λ column made. is-aggregate c.args.at.0 c.args.df.now c.args.numbering.now c.requires.groups t c.in-Some.reduction (omega (arith, c.height-height.ensures.rows, c.height-height.ensures.counted)) reduces column (ap (λ (x : Series). x.values) made))
     c.reduced_column.ensures.made
 
 pub evaluated_column-requires-clause-kinds : goal.evaluated_column-requires-clause-kinds

@@ -2,9 +2,9 @@ use Rattle.std.proofs.Common.{◌≡◌, ◌+◌, ◌-◌, List, ℕ, length, ap
 use Rattle.std.specs.Prelude.{Some, option_map, slice_get}
 use Rattle.ps_frame.specs.Trees.{IsComplete, tree_at}
 use Rattle.ps_frame.specs.declared.value.DataType.{DataType}
-use Rattle.ps_plan.specs.declared.ir.ExprIR.{ExprIR}
+use Rattle.ps_meaning.specs.declared.options.ExprIR.{ExprIR}
 use Rattle.ps_zip.proofs.Steps.{all-image}
-use Rattle.ps_groups.specs.Tables.{group_tables}
+use Rattle.ps_groups.specs.GroupTables.{group_tables}
 use Rattle.ps_groups.proofs.AggregateLoops.{columns-more, error-of-any, kind-of-field, kinds-more}
 use Rattle.ps_groups.proofs.aggregates.aggregate_columns.Goals as goal
 

@@ -3,9 +3,9 @@ use Rattle.std.specs.Prelude.{IfSome}
 use Rattle.std.specs.List.{AllZip}
 use Rattle.ps_frame.specs.Frames.{HasKinds}
 use Rattle.ps_frame.specs.Trees.{tree_at}
-use Rattle.ps_plan.specs.Steps.{key_trees}
+use Rattle.ps_meaning.specs.Steps.{key_trees}
 use Rattle.ps_groups.specs.Grouped.{IsAggregate, last_fields}
-use Rattle.ps_groups.specs.Tables.{group_tables}
+use Rattle.ps_groups.specs.GroupTables.{group_tables}
 use Rattle.ps_groups.proofs.aggregates.aggregate_columns.Given as goal
 
 abbrev pub invariant-loop-i : goal.invariant-loop-i

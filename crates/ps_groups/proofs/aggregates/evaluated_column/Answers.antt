@@ -6,8 +6,8 @@ use Rattle.ps_frame.specs.Causes.{column_causes}
 use Rattle.ps_frame.specs.Eval.{eval}
 use Rattle.ps_frame.specs.Tables.{Frame, whole}
 use Rattle.ps_frame.specs.Trees.{tree_at}
-use Rattle.ps_frame.specs.Typed.{Typed, all_fit}
-use Rattle.ps_plan.specs.Groups.{only_value}
+use Rattle.ps_frame.specs.Series.{Series, all_fit}
+use Rattle.ps_meaning.specs.Groups.{only_value}
 use Rattle.ps_groups.specs.Grouped.{IsValueOf}
 use Rattle.ps_groups.proofs.Values.{clean-more, fault-over, values-fit, values-more}
 use Rattle.ps_groups.proofs.aggregates.evaluated_column.Goals as goal
@@ -52,5 +52,5 @@ returns-clause-column c =
     let all : take c.loop-group.group tables ≡ tables = take_all c.loop-group.group tables (omega arith) in
     let values = c.loop-group.invariant.values ∙ ap (map (λ f. only_value (eval at (whole f) t))) all in
     IfOk-weaker c.column_of_values.result _ _
-    (λ column is. record { values = ap (λ (x : Typed). x.values) is ∙ values; clean = λ k d within. c.loop-group.invariant.clean k d (omega arith) })
+    (λ column is. record { values = ap (λ (x : Series). x.values) is ∙ values; clean = λ k d within. c.loop-group.invariant.clean k d (omega arith) })
     c.column_of_values.ensures.made

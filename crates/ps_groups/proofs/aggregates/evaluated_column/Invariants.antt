@@ -3,7 +3,7 @@ use Rattle.ps_frame.specs.Causes.{column_causes}
 use Rattle.ps_frame.specs.Eval.{eval}
 use Rattle.ps_frame.specs.Tables.{Frame, whole}
 use Rattle.ps_frame.specs.Trees.{tree_at}
-use Rattle.ps_plan.specs.Groups.{only_value}
+use Rattle.ps_meaning.specs.Groups.{only_value}
 use Rattle.ps_groups.proofs.aggregates.evaluated_column.Given as goal
 
 abbrev pub invariant-loop-group : goal.invariant-loop-group

@@ -1,7 +1,7 @@
 use Rattle.std.proofs.Common.{◌≡◌, ap, ◌∙◌}
 use Rattle.std.proofs.lemmas.Result.{IfOk-weaker}
 use Rattle.ps_frame.specs.Gathered.{rows_at}
-use Rattle.ps_plan.specs.Distinct.{kept_rows, subset_places}
+use Rattle.ps_meaning.specs.Distinct.{kept_rows, subset_places}
 use Rattle.ps_groups.proofs.Gives.{distinct-gives}
 use Rattle.ps_groups.proofs.distinct.distinct.Goals as goal
 

@@ -1,6 +1,6 @@
 use Rattle.std.proofs.Common.{◌≡◌, ◌<◌, length, take}
 use Rattle.std.specs.List.{All}
-use Rattle.ps_plan.specs.Distinct.{places_in}
+use Rattle.ps_meaning.specs.Distinct.{places_in}
 use Rattle.ps_groups.proofs.distinct.places_of_names.Given as goal
 
 abbrev pub invariant-loop-name : goal.invariant-loop-name

@@ -5,9 +5,9 @@ use Rattle.ps_frame.specs.Frames.{AllOfHeight, column_values}
 use Rattle.ps_frame.specs.Gathered.{rows_at}
 use Rattle.ps_frame.specs.Tables.{rows_of, values_at}
 use Rattle.ps_keys.specs.Numbering.{Numbers}
-use Rattle.ps_plan.specs.Distinct.{kept_rows, picked, subset_places}
+use Rattle.ps_meaning.specs.Distinct.{kept_rows, picked, subset_places}
 use Rattle.ps_frame.proofs.Rows.{length-rows_of}
-use Rattle.ps_groups.specs.Places.{kept_places}
+use Rattle.ps_groups.specs.KeptRows.{kept_places}
 use Rattle.ps_groups.proofs.Kept.{keys-below-firsts, kept_places-at, kept_places-below, kept_places-few, picked-heights, picked-rows}
 use Rattle.ps_groups.proofs.distinct.rows_to_keep.Goals as goal
 

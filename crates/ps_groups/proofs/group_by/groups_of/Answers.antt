@@ -5,9 +5,9 @@ use Rattle.ps_frame.specs.Frames.{HasKinds, IsFrame, column_values}
 use Rattle.ps_frame.specs.Gathered.{gathered}
 use Rattle.ps_frame.specs.Tables.{rows_of}
 use Rattle.ps_frame.specs.Trees.{tree_at}
-use Rattle.ps_frame.specs.Typed.{Typed}
-use Rattle.ps_plan.specs.Steps.{key_trees}
-use Rattle.ps_plan.specs.declared.ir.ExprIR.{ExprIR}
+use Rattle.ps_frame.specs.Series.{Series}
+use Rattle.ps_meaning.specs.Steps.{key_trees}
+use Rattle.ps_meaning.specs.declared.options.ExprIR.{ExprIR}
 use Rattle.ps_zip.proofs.Results.{if_ok}
 use Rattle.ps_groups.specs.Grouped.{last_fields}
 use Rattle.ps_groups.proofs.Grouping.{firsts-there, group-frame, groups-clean, rows-of-groups}
@@ -18,8 +18,8 @@ pub rows_of_groups-requires-clause-there : goal.rows_of_groups-requires-clause-t
 rows_of_groups-requires-clause-there c =
     let keys = c.args.keyed.now.keys.items in
     let trees = key_trees (tree_at c.args.arena.now.items) c.args.aggs.now in
-    subst (λ (ns : List ℕ). All (λ (x : Typed). All (λ i. i < length x.values) ns) c.as_slice-keys.result.now) (sym c.as_slice.ensures.value)
-    (subst (All (λ (x : Typed). All (λ i. i < length x.values) c.in_ok-numbering.numbering.firsts.items)) (sym c.as_slice-keys.ensures.value)
+    subst (λ (ns : List ℕ). All (λ (x : Series). All (λ i. i < length x.values) ns) c.as_slice-keys.result.now) (sym c.as_slice.ensures.value)
+    (subst (All (λ (x : Series). All (λ i. i < length x.values) c.in_ok-numbering.numbering.firsts.items)) (sym c.as_slice-keys.ensures.value)
     (firsts-there c.args.keyed.now.table keys trees c.args.schema.now c.requires c.in_ok-numbering.numbering c.in_ok-numbering.ensures.numbers))
 
 pub rows_of_groups-requires-clause-fields : goal.rows_of_groups-requires-clause-fields
@@ -33,7 +33,7 @@ rows_of_groups-requires-clause-fields c =
     let many : length trees ≡ length aggs = length-map aggs (λ (e : ExprIR). tree_at c.args.arena.now.items e.node) in
     let kinds = subst (λ m. HasKinds (last_fields m schema) values) (sym many) c.in-Ok.ensures.kinds in
     subst (λ (ns : List ℕ). IsFrame schema (map (gathered ns) c.as_slice-keys.result.now ++ values) (length ns)) (sym c.as_slice.ensures.value)
-    (subst (λ (cs : List Typed). IsFrame schema (map (gathered firsts) cs ++ values) (length firsts)) (sym c.as_slice-keys.ensures.value)
+    (subst (λ (cs : List Series). IsFrame schema (map (gathered firsts) cs ++ values) (length firsts)) (sym c.as_slice-keys.ensures.value)
     (group-frame c.args.keyed.now.table keys trees schema c.requires c.in_ok-numbering.numbering c.in_ok-numbering.ensures.numbers c.args.at.0 values c.in-Ok.ensures.columns c.in_ok-numbering.ensures.small kinds))
 
 pub returns-in-Ok-clause-rows : goal.returns-in-Ok-clause-rows

@@ -6,12 +6,12 @@ use Rattle.ps_frame.specs.Frames.{kinds_of}
 use Rattle.ps_frame.specs.Tables.{Frame}
 use Rattle.ps_frame.specs.Trees.{tree_at}
 use Rattle.ps_frame.specs.Typing.{kind_over}
-use Rattle.ps_plan.specs.Steps.{key_trees}
-use Rattle.ps_plan.specs.declared.ir.ExprIR.{ExprIR}
+use Rattle.ps_meaning.specs.Steps.{key_trees}
+use Rattle.ps_meaning.specs.declared.options.ExprIR.{ExprIR}
 use Rattle.ps_zip.proofs.Results.{if_err, if_ok}
 use Rattle.ps_groups.specs.Errors.{IsErrorAt}
 use Rattle.ps_groups.specs.Grouped.{IsAggregate, IsFaultOfAny, key_frames, keyed_rows, last_fields}
-use Rattle.ps_groups.specs.Tables.{group_tables}
+use Rattle.ps_groups.specs.GroupTables.{group_tables}
 use Rattle.ps_groups.proofs.Grouping.{aggregates-count, below-count, fault-of-any, frames-are, keys-long, last-kinds}
 use Rattle.ps_groups.proofs.group_by.values_of_groups.Goals as goal
 

@@ -1,5 +1,5 @@
 use Rattle.std.proofs.Common.{subst, sym}
-use Rattle.ps_eval.specs.Wholes.{aggregation_of}
+use Rattle.ps_expr_eval.specs.Wholes.{aggregation_of}
 use Rattle.ps_groups.specs.Reductions.{ReducesColumn}
 use Rattle.ps_groups.specs.declared.reductions.Reduction.TheVariants as reduction
 use Rattle.ps_groups.proofs.Reducing.{sum-reduces}

@@ -2,9 +2,9 @@ use Rattle.std.proofs.Common.{List, subst}
 use Rattle.ps_frame.specs.Tables.{whole}
 use Rattle.ps_frame.specs.Trees.{tree_at}
 use Rattle.ps_frame.specs.declared.value.DataType.TheVariants as kind
-use Rattle.ps_plan.specs.Cases.{keyed}
-use Rattle.ps_plan.specs.Steps.{key_trees}
-use Rattle.ps_plan.specs.declared.ir.ExprIR.{ExprIR}
+use Rattle.ps_meaning.specs.Cases.{keyed}
+use Rattle.ps_meaning.specs.Steps.{key_trees}
+use Rattle.ps_meaning.specs.declared.options.ExprIR.{ExprIR}
 use Rattle.ps_rows.proofs.Filtering.{filter-faults, filter-gives, mask-of}
 use Rattle.ps_rows.proofs.Results.{if_ok_both}
 use Rattle.ps_rows.specs.Keyed.{IsTableWithKeys}

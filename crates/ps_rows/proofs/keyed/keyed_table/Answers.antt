@@ -2,8 +2,8 @@ use Rattle.std.proofs.Common.{length, take, drop, ap, ◌∙◌}
 use Rattle.ps_frame.specs.Frames.{column_values}
 use Rattle.ps_frame.specs.Tables.{Fields, rows_of, whole}
 use Rattle.ps_frame.specs.Trees.{tree_at}
-use Rattle.ps_plan.specs.Cases.{keyed}
-use Rattle.ps_plan.specs.Steps.{key_trees}
+use Rattle.ps_meaning.specs.Cases.{keyed}
+use Rattle.ps_meaning.specs.Steps.{key_trees}
 use Rattle.ps_rows.proofs.Keys.{front-frame, with-keys}
 use Rattle.ps_rows.proofs.Results.{if_ok_three}
 use Rattle.ps_rows.proofs.keyed.keyed_table.Goals as goal

@@ -1,6 +1,6 @@
 use Rattle.std.proofs.Common.{◌≡◌, ◌+◌, ◌*◌, ◌≤◌, [], length, take, ℕ}
 use Rattle.std.specs.Prelude.{Contains}
-use Rattle.pu_index.specs.declared.arena.Node.{Node}
+use Rattle.pu_base.specs.declared.arena.Node.{Node}
 use Rattle.ps_plan.specs.Graph.{Names, operands}
 use Rattle.ps_survey.specs.Counts.{looks_at, names_in}
 use Rattle.ps_survey.specs.Flaws.{plan_of}

@@ -1,5 +1,5 @@
 use Rattle.std.proofs.Common.{arith}
-use Rattle.ps_plan.specs.Steps.{entry_inputs}
+use Rattle.ps_plan.specs.Entries.{entry_inputs}
 use Rattle.ps_survey.specs.Flaws.{plan_of}
 use Rattle.ps_survey.proofs.FlawLemmas.{no-root}
 use Rattle.ps_survey.proofs.Fresh.{looks-new}

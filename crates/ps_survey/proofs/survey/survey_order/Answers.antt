@@ -1,7 +1,7 @@
 use Rattle.std.proofs.Common.{◌≡◌, ◌+◌, ◌*◌, ◌<◌, ◌≤◌, ℕ, List, length, ap, subst, sym, arith}
 use Rattle.std.specs.Prelude.{Contains}
 use Rattle.ps_plan.specs.Graph.{operands}
-use Rattle.ps_plan.specs.Steps.{entry_exprs, entry_inputs}
+use Rattle.ps_plan.specs.Entries.{entry_exprs, entry_inputs}
 use Rattle.ps_survey.specs.Counts.{all_names, looks_at, names_in}
 use Rattle.ps_survey.specs.Extents.{HasExtent, expr_depth, expr_size}
 use Rattle.ps_survey.specs.Flaws.{plan_of}

@@ -1,6 +1,6 @@
 use Rattle.std.proofs.Common.{List, refl, sym, subst}
 use Rattle.std.specs.Prelude.{IsTrue}
-use Rattle.ps_frame.specs.Typed.{all_fit}
+use Rattle.ps_frame.specs.Series.{all_fit}
 use Rattle.ps_frame.specs.declared.value.Value.{Value}
 use Rattle.ps_frame.specs.declared.value.Value.TheVariants as val
 use Rattle.ps_frame.proofs.Lists.{list_all-replicate}

@@ -2,7 +2,7 @@ use Rattle.std.proofs.Common.{◌≡◌, take}
 use Rattle.std.specs.Prelude.{map}
 use Rattle.ps_frame.specs.Frames.{HasKinds, column_values}
 use Rattle.ps_frame.specs.Tables.{Frame}
-use Rattle.ps_plan.specs.Schemas.{joined_schemas}
+use Rattle.ps_meaning.specs.Schemas.{joined_schemas}
 use Rattle.ps_tables.specs.Columns.{all_values, filled}
 use Rattle.ps_tables.proofs.hconcat.side_by_side.Given as goal
 

@@ -1,6 +1,6 @@
 use Rattle.std.proofs.Common.{◌≡◌, take}
 use Rattle.ps_frame.specs.Frames.{HasKinds, column_values}
-use Rattle.ps_plan.specs.Distinct.{places_in}
+use Rattle.ps_meaning.specs.Distinct.{places_in}
 use Rattle.ps_tables.proofs.Projected.{columns_at}
 use Rattle.ps_tables.proofs.project.named_columns.Given as goal
 

@@ -1,6 +1,6 @@
 use Rattle.std.proofs.Common.{List, sym, subst}
 use Rattle.std.specs.Prelude.{IsTrue}
-use Rattle.ps_frame.specs.Typed.{all_fit}
+use Rattle.ps_frame.specs.Series.{all_fit}
 use Rattle.ps_frame.specs.declared.value.DataType.TheVariants as kind
 use Rattle.ps_frame.specs.declared.value.Value.{Value}
 use Rattle.ps_tables.proofs.Numbered.{numbers-fit}

@@ -1,7 +1,7 @@
 -- Each error of an operand is one of the expression.
 use Rattle.std.proofs.Common.{List, sym, subst, ◌∙◌, arith}
 use Rattle.std.proofs.lemmas.Grind.{common_steps}
-use Rattle.pu_index.specs.declared.arena.Node.{Node}
+use Rattle.pu_base.specs.declared.arena.Node.{Node}
 use Rattle.ps_frame.specs.Parts.{tree_parts, trees_parts}
 use Rattle.ps_frame.specs.Trees.{Tree, tree_at, trees_of}
 use Rattle.ps_typing.proofs.Broken.{aggregate_tree-is, among-left_keys, passed-on, passed-whole, sort_by-refused, sort_by-typed, tree-is}

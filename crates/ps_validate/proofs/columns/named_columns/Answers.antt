@@ -1,5 +1,5 @@
 use Rattle.ps_frame.specs.Tables.{field_kind}
-use Rattle.ps_plan.specs.Steps.{Name}
+use Rattle.ps_meaning.specs.Steps.{Name}
 use Rattle.ps_validate.proofs.Naming.{naming-missing, naming-next, naming-refused}
 use Rattle.ps_validate.proofs.Typed.{passed-on}
 use Rattle.ps_validate.proofs.columns.named_columns.Goals as goal

@@ -1,8 +1,8 @@
 use Rattle.std.proofs.Common.{◌+◌, ◌++◌, drop, sym, ◌∙◌, ap, subst}
 use Rattle.ps_frame.specs.Frames.{has_name}
 use Rattle.ps_frame.specs.Tables.{Fields}
-use Rattle.ps_plan.specs.Schemas.{names_of}
-use Rattle.ps_plan.specs.Steps.{Name}
+use Rattle.ps_meaning.specs.Schemas.{names_of}
+use Rattle.ps_meaning.specs.Steps.{Name}
 use Rattle.ps_validate.proofs.Pushing.{Pushing, absent-none, absent-one, push-none, push-one, push-refused-one}
 use Rattle.ps_validate.proofs.Typed.{passed-on}
 use Rattle.ps_validate.specs.Columns.{IsRepeatError, absent_from}

@@ -1,6 +1,6 @@
 use Rattle.std.proofs.Common.{◌++◌, refl}
 use Rattle.ps_frame.specs.Tables.{Fields}
-use Rattle.ps_plan.specs.Schemas.{names_of}
+use Rattle.ps_meaning.specs.Schemas.{names_of}
 use Rattle.ps_validate.proofs.Pushing.{push-one, push-refused-one}
 use Rattle.ps_validate.proofs.Typed.{passed-on}
 use Rattle.ps_validate.specs.Columns.{IsRepeatError}

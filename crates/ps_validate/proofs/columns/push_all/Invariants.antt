@@ -1,5 +1,5 @@
 use Rattle.ps_frame.specs.Tables.{Fields}
-use Rattle.ps_plan.specs.Schemas.{names_of, suffixed}
+use Rattle.ps_meaning.specs.Schemas.{names_of, suffixed}
 use Rattle.ps_validate.proofs.Pushing.{Pushing}
 use Rattle.ps_validate.proofs.columns.push_all.Given as goal
 use Rattle.ps_validate.specs.Columns.{absent_from, with_kinds}

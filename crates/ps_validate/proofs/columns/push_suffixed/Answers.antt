@@ -1,8 +1,8 @@
 use Rattle.std.proofs.Common.{◌+◌, ◌++◌, drop, true, false, refl, sym, ◌∙◌, ap, subst}
 use Rattle.ps_frame.specs.Frames.{has_name}
 use Rattle.ps_frame.specs.Tables.{Fields}
-use Rattle.ps_plan.specs.Schemas.{names_of, suffixed}
-use Rattle.ps_plan.specs.Steps.{Name}
+use Rattle.ps_meaning.specs.Schemas.{names_of, suffixed}
+use Rattle.ps_meaning.specs.Steps.{Name}
 use Rattle.ps_validate.proofs.Pushing.{Pushing, push-one, push-refused-one, suffixed-one}
 use Rattle.ps_validate.proofs.Typed.{passed-on}
 use Rattle.ps_validate.specs.Columns.{IsRepeatError}

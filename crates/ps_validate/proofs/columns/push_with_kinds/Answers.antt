@@ -2,8 +2,8 @@ use Rattle.std.proofs.Common.{◌+◌, ◌++◌, drop, sym, ◌∙◌, ap}
 use Rattle.std.specs.Prelude.{Option, unwrap_or}
 use Rattle.ps_frame.specs.Tables.{field_kind}
 use Rattle.ps_frame.specs.declared.value.DataType.{DataType}
-use Rattle.ps_plan.specs.Schemas.{names_of}
-use Rattle.ps_plan.specs.Steps.{Name}
+use Rattle.ps_meaning.specs.Schemas.{names_of}
+use Rattle.ps_meaning.specs.Steps.{Name}
 use Rattle.ps_validate.proofs.Pushing.{kinds-one, push-one, push-refused-one}
 use Rattle.ps_validate.proofs.Typed.{passed-on}
 use Rattle.ps_validate.specs.Columns.{IsRepeatError, with_kinds}

@@ -1,7 +1,7 @@
 use Rattle.std.proofs.Common.{◌+◌, ◌++◌, drop, sym, ◌∙◌, ap, subst}
 use Rattle.std.specs.HashSet.{contains_text}
 use Rattle.ps_frame.specs.Tables.{Fields}
-use Rattle.ps_plan.specs.Schemas.{names_of, without}
+use Rattle.ps_meaning.specs.Schemas.{names_of, without}
 use Rattle.ps_validate.proofs.Pushing.{Pushing, push-none, push-one, push-refused-one, without-none, without-one}
 use Rattle.ps_validate.proofs.Typed.{passed-on}
 use Rattle.ps_validate.specs.Columns.{IsRepeatError}

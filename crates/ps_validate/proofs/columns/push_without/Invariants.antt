@@ -1,7 +1,7 @@
 use Rattle.std.proofs.Common.{◌≡◌, List}
 use Rattle.std.specs.HashSet.{contains_text}
-use Rattle.ps_plan.specs.Schemas.{is_among, without}
-use Rattle.ps_plan.specs.Steps.{Name}
+use Rattle.ps_meaning.specs.Schemas.{is_among, without}
+use Rattle.ps_meaning.specs.Steps.{Name}
 use Rattle.ps_validate.proofs.Pushing.{Pushing}
 use Rattle.ps_validate.proofs.columns.push_without.Given as goal
 

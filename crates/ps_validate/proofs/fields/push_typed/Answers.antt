@@ -1,7 +1,7 @@
 use Rattle.std.proofs.Common.{◌≡◌, ◌∷◌, ◌++◌, [], false, sym, subst, ◌∙◌, ap}
 use Rattle.ps_frame.specs.Frames.{has_name}
 use Rattle.ps_frame.specs.Trees.{tree_at}
-use Rattle.ps_plan.specs.Steps.{Name}
+use Rattle.ps_meaning.specs.Steps.{Name}
 use Rattle.ps_validate.proofs.Adding.{next-left, next-steps, passed-error, passed-push}
 use Rattle.ps_validate.proofs.fields.push_typed.Goals as goal
 

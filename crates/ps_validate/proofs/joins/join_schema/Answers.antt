@@ -2,7 +2,7 @@ use Rattle.ps_frame.specs.Functions.{Functions}
 use Rattle.ps_frame.specs.Tables.{Fields}
 use Rattle.ps_frame.specs.Trees.{tree_at}
 use Rattle.ps_frame.specs.declared.refusal.PolarsError.{PolarsError}
-use Rattle.ps_plan.specs.Steps.{JoinStep, join, key_trees}
+use Rattle.ps_meaning.specs.Steps.{JoinStep, join, key_trees}
 use Rattle.ps_validate.proofs.Joining.{column-error, join-gives, left-error, pair-error, right-error}
 use Rattle.ps_validate.proofs.KeyCounts.{keys-length}
 use Rattle.ps_validate.proofs.Typed.{answered, passed-on}

@@ -2,8 +2,8 @@ use Rattle.ps_frame.specs.Frames.{has_distinct_names}
 use Rattle.ps_frame.specs.Tables.{Fields}
 use Rattle.ps_frame.specs.Trees.{tree_at}
 use Rattle.ps_frame.specs.declared.refusal.PolarsError.TheVariants as error
-use Rattle.ps_plan.specs.Schemas.{bare_names, names_of, without}
-use Rattle.ps_plan.specs.Steps.{key_trees}
+use Rattle.ps_meaning.specs.Schemas.{bare_names, names_of, without}
+use Rattle.ps_meaning.specs.Steps.{key_trees}
 use Rattle.ps_validate.proofs.Distinctness.{repeats-memory, without-distinct}
 use Rattle.ps_validate.proofs.Typed.{memory-on}
 use Rattle.ps_validate.proofs.joins.without_keys.Goals as goal

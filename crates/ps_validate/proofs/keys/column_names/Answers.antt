@@ -1,6 +1,6 @@
 use Rattle.ps_frame.specs.Trees.{tree_at}
-use Rattle.ps_plan.specs.Schemas.{bare_names, is_among}
-use Rattle.ps_plan.specs.Steps.{Name, key_trees}
+use Rattle.ps_meaning.specs.Schemas.{bare_names, is_among}
+use Rattle.ps_meaning.specs.Steps.{Name, key_trees}
 use Rattle.ps_validate.proofs.BareNames.{bare-next, bare-skip, later-complete}
 use Rattle.ps_validate.proofs.keys.column_names.Goals as goal
 use Rattle.ps_validate.proofs.keys.column_names.Goals.{in-Some+in_ok-name+in_ok-insert, in_default}

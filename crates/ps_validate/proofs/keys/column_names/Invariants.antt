@@ -3,8 +3,8 @@ use Rattle.std.specs.HashSet.{contains_text}
 use Rattle.std.specs.List.{AllByRecursion}
 use Rattle.std.specs.Prelude.{◌||◌}
 use Rattle.ps_frame.specs.Trees.{IsComplete, tree_at}
-use Rattle.ps_plan.specs.Schemas.{bare_names, is_among}
-use Rattle.ps_plan.specs.Steps.{Name, key_trees}
+use Rattle.ps_meaning.specs.Schemas.{bare_names, is_among}
+use Rattle.ps_meaning.specs.Steps.{Name, key_trees}
 use Rattle.ps_validate.proofs.keys.column_names.Given as goal
 
 abbrev pub invariant-loop-key : goal.invariant-loop-key

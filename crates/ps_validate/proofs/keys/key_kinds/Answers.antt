@@ -1,5 +1,5 @@
 use Rattle.ps_frame.specs.Trees.{tree_at}
-use Rattle.ps_plan.specs.Steps.{key_trees}
+use Rattle.ps_meaning.specs.Steps.{key_trees}
 use Rattle.ps_typing.specs.Refused.{IsErrorAmong}
 use Rattle.ps_validate.proofs.Keying.{key-error, key-next}
 use Rattle.ps_validate.proofs.Typed.{passed-on}

@@ -1,7 +1,7 @@
 use Rattle.std.proofs.Common.{◌≡◌, [], None, ap}
 use Rattle.std.specs.Prelude.{unwrap_or}
 use Rattle.ps_plan.specs.Plans.{tree_of}
-use Rattle.ps_plan.specs.Schemas.{tree_schema}
+use Rattle.ps_meaning.specs.Schemas.{tree_schema}
 use Rattle.ps_validate.proofs.laws.schemas_are_known.Goals as goal
 use Rattle.ps_validate.specs.Valid.{plan_with}
 

@@ -1,7 +1,7 @@
 use Rattle.ps_frame.specs.Functions.{Functions}
 use Rattle.ps_frame.specs.Tables.{Fields}
-use Rattle.ps_plan.specs.Steps.{Cut}
-use Rattle.ps_plan.specs.declared.ir.UniqueKeepStrategy.{UniqueKeepStrategy}
+use Rattle.ps_meaning.specs.Steps.{Cut}
+use Rattle.ps_meaning.specs.declared.options.UniqueKeepStrategy.{UniqueKeepStrategy}
 use Rattle.ps_validate.proofs.Projecting.{by_some, named-distinct-gives}
 use Rattle.ps_validate.proofs.Typed.{answered}
 use Rattle.ps_validate.proofs.projections.named_distinct_schema.Goals as goal

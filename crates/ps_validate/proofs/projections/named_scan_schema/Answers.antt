@@ -1,7 +1,7 @@
 use Rattle.ps_frame.specs.Functions.{Functions}
 use Rattle.ps_frame.specs.Tables.{Fields}
-use Rattle.ps_plan.specs.Schemas.{named_fields}
-use Rattle.ps_plan.specs.Steps.{scan}
+use Rattle.ps_meaning.specs.Schemas.{named_fields}
+use Rattle.ps_meaning.specs.Steps.{scan}
 use Rattle.ps_validate.proofs.Projecting.{named-scan-gives}
 use Rattle.ps_validate.proofs.Typed.{answered}
 use Rattle.ps_validate.proofs.projections.named_scan_schema.Goals as goal

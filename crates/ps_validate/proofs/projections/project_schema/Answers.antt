@@ -1,6 +1,6 @@
 use Rattle.ps_frame.specs.Functions.{Functions}
 use Rattle.ps_frame.specs.Tables.{Fields}
-use Rattle.ps_plan.specs.Steps.{project}
+use Rattle.ps_meaning.specs.Steps.{project}
 use Rattle.ps_validate.proofs.Projecting.{project-gives}
 use Rattle.ps_validate.proofs.Typed.{answered}
 use Rattle.ps_validate.proofs.projections.project_schema.Goals as goal

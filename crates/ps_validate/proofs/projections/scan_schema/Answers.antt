@@ -1,7 +1,7 @@
 use Rattle.ps_frame.specs.Frames.{has_distinct_names}
 use Rattle.ps_frame.specs.Functions.{Functions}
 use Rattle.ps_frame.specs.Tables.{Fields}
-use Rattle.ps_plan.specs.Steps.{scan}
+use Rattle.ps_meaning.specs.Steps.{scan}
 use Rattle.ps_validate.proofs.Projecting.{scan-gives}
 use Rattle.ps_validate.proofs.Typed.{answered}
 use Rattle.ps_validate.proofs.projections.scan_schema.Goals as goal

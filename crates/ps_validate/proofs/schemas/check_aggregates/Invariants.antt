@@ -2,8 +2,8 @@ use Rattle.std.proofs.Common.{◌≡◌, ◌+◌, ◌≤◌, drop}
 use Rattle.std.specs.List.{AllByRecursion, list_any}
 use Rattle.ps_frame.specs.Parts.{is_literal_aggregate, some_part}
 use Rattle.ps_frame.specs.Trees.{IsComplete, tree_at}
-use Rattle.ps_plan.specs.Plans.{all_sizes}
-use Rattle.ps_plan.specs.Steps.{exprs_of, named_trees}
+use Rattle.ps_meaning.specs.PlanTrees.{all_sizes}
+use Rattle.ps_meaning.specs.Steps.{exprs_of, named_trees}
 use Rattle.ps_validate.proofs.schemas.check_aggregates.Given as goal
 
 abbrev pub invariant-loop-agg : goal.invariant-loop-agg

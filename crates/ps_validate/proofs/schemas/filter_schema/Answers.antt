@@ -2,7 +2,7 @@ use Rattle.ps_frame.specs.Functions.{Functions}
 use Rattle.ps_frame.specs.Tables.{Fields}
 use Rattle.ps_frame.specs.Trees.{tree_at}
 use Rattle.ps_frame.specs.declared.value.DataType.TheVariants as kind
-use Rattle.ps_plan.specs.Steps.{filter}
+use Rattle.ps_meaning.specs.Steps.{filter}
 use Rattle.ps_validate.proofs.Selected.{filter-gives}
 use Rattle.ps_validate.proofs.Typed.{answered}
 use Rattle.ps_validate.proofs.schemas.filter_schema.Goals as goal

@@ -1,6 +1,6 @@
 use Rattle.ps_frame.specs.Functions.{Functions}
 use Rattle.ps_frame.specs.Tables.{Fields}
-use Rattle.ps_plan.specs.Steps.{Step}
+use Rattle.ps_meaning.specs.Steps.{Step}
 use Rattle.ps_validate.proofs.Passing.{passed-gives}
 use Rattle.ps_validate.proofs.Typed.{answered}
 use Rattle.ps_validate.proofs.schemas.passed_schema.Goals as goal

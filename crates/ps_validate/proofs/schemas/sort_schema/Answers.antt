@@ -2,7 +2,7 @@ use Rattle.ps_frame.specs.Functions.{Functions}
 use Rattle.ps_frame.specs.Tables.{Fields}
 use Rattle.ps_frame.specs.Trees.{tree_at}
 use Rattle.ps_frame.specs.declared.refusal.PolarsError.{PolarsError}
-use Rattle.ps_plan.specs.Steps.{Cut, key_trees, sort}
+use Rattle.ps_meaning.specs.Steps.{Cut, key_trees, sort}
 use Rattle.ps_validate.proofs.Sorting.{sort-error, sort-gives}
 use Rattle.ps_validate.proofs.Typed.{answered, passed-on}
 use Rattle.ps_validate.proofs.schemas.sort_schema.Goals as goal

@@ -1,8 +1,8 @@
 use Rattle.ps_frame.specs.Functions.{Functions}
 use Rattle.ps_frame.specs.Tables.{Fields}
 use Rattle.ps_frame.specs.declared.refusal.PolarsError.{PolarsError}
-use Rattle.ps_plan.specs.Schemas.{joined_schemas}
-use Rattle.ps_plan.specs.Steps.{hconcat}
+use Rattle.ps_meaning.specs.Schemas.{joined_schemas}
+use Rattle.ps_meaning.specs.Steps.{hconcat}
 use Rattle.ps_validate.proofs.Stacked.{hconcat-gives, input-known, join-end, join-error}
 use Rattle.ps_validate.proofs.Typed.{answered, passed-on}
 use Rattle.ps_validate.proofs.stacks.hconcat_schema.Goals as goal

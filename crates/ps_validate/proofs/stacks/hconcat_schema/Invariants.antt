@@ -1,5 +1,5 @@
 use Rattle.std.proofs.Common.{◌≡◌, ◌++◌, drop}
-use Rattle.ps_plan.specs.Schemas.{joined_schemas}
+use Rattle.ps_meaning.specs.Schemas.{joined_schemas}
 use Rattle.ps_validate.proofs.stacks.hconcat_schema.Given as goal
 use Rattle.ps_validate.specs.Known.{AreKnown, schemas_in}
 

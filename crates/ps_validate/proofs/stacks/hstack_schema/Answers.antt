@@ -2,8 +2,8 @@ use Rattle.ps_frame.specs.Functions.{Functions}
 use Rattle.ps_frame.specs.Tables.{Fields}
 use Rattle.ps_frame.specs.Trees.{tree_at}
 use Rattle.ps_frame.specs.declared.refusal.PolarsError.{PolarsError}
-use Rattle.ps_plan.specs.Schemas.{names_of}
-use Rattle.ps_plan.specs.Steps.{hstack, named_trees}
+use Rattle.ps_meaning.specs.Schemas.{names_of}
+use Rattle.ps_meaning.specs.Steps.{hstack, named_trees}
 use Rattle.ps_validate.proofs.Stacked.{hstack-error, hstack-first, hstack-gives, hstack-later, hstack-schema}
 use Rattle.ps_validate.proofs.Typed.{answered, empty-error, if-err, passed-on}
 use Rattle.ps_validate.proofs.stacks.hstack_schema.Goals as goal

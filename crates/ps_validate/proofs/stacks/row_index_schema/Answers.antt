@@ -2,7 +2,7 @@ use Rattle.ps_frame.specs.Functions.{Functions}
 use Rattle.ps_frame.specs.Tables.{Fields}
 use Rattle.ps_frame.specs.declared.value.DataType.TheVariants as kind
 use Rattle.ps_frame.specs.declared.value.DataType.{DataType}
-use Rattle.ps_plan.specs.Steps.{Name, row_index}
+use Rattle.ps_meaning.specs.Steps.{Name, row_index}
 use Rattle.ps_validate.proofs.Stacked.{index-gives}
 use Rattle.ps_validate.proofs.stacks.row_index_schema.Goals as goal
 use Rattle.ps_validate.specs.Nodes.{GivesSchema}

@@ -1,6 +1,6 @@
 use Rattle.ps_frame.specs.Functions.{Functions}
 use Rattle.ps_frame.specs.Tables.{Fields}
-use Rattle.ps_plan.specs.Steps.{Cut, union}
+use Rattle.ps_meaning.specs.Steps.{Cut, union}
 use Rattle.ps_validate.proofs.Stacked.{first-known, inputs-differ, inputs-give}
 use Rattle.ps_validate.proofs.Typed.{answered}
 use Rattle.ps_validate.proofs.stacks.union_schema.Goals as goal

@@ -12,7 +12,7 @@ use Rattle.ps_validate.specs.Valid.{IsPlanError}
 
 pub returns-in_err-survey-clause-refused : goal.returns-in_err-survey-clause-refused
 returns-in_err-survey-clause-refused g c =
-    passed-on (IsPlanError (record { count = g.F.Functions.counted c.args.functions.now; streams = g.F.Functions.streams; answer = g.F.Functions.answer; declared = g.F.Functions.declared }) (plan_of c.args.root c.args.ir.items c.args.exprs.now.items)) c.in_err-survey.field-0.0 c.from_residual.result c.from_residual.ensures.1 (flaw-error (record { count = g.F.Functions.counted c.args.functions.now; streams = g.F.Functions.streams; answer = g.F.Functions.answer; declared = g.F.Functions.declared }) (plan_of c.args.root c.args.ir.items c.args.exprs.now.items) c.in_err-survey.field-0.0 c.in_err-survey.ensures.refused)
+    passed-on (IsPlanError (g.F.Functions.told c.args.functions.now) (plan_of c.args.root c.args.ir.items c.args.exprs.now.items)) c.in_err-survey.field-0.0 c.from_residual.result c.from_residual.ensures.1 (flaw-error (g.F.Functions.told c.args.functions.now) (plan_of c.args.root c.args.ir.items c.args.exprs.now.items) c.in_err-survey.field-0.0 c.in_err-survey.ensures.refused)
 
 pub check_caches-requires : goal.check_caches-requires
 check_caches-requires g c =
@@ -21,8 +21,8 @@ check_caches-requires g c =
 
 pub returns-in_err-check_caches-clause-refused : goal.returns-in_err-check_caches-clause-refused
 returns-in_err-check_caches-clause-refused g c =
-    passed-on (IsPlanError (record { count = g.F.Functions.counted c.args.functions.now; streams = g.F.Functions.streams; answer = g.F.Functions.answer; declared = g.F.Functions.declared }) (plan_of c.args.root c.args.ir.items c.args.exprs.now.items)) c.in_err-check_caches.field-0.0 c.from_residual-in_err-check_caches.result c.from_residual-in_err-check_caches.ensures.1
-    (cache-error (record { count = g.F.Functions.counted c.args.functions.now; streams = g.F.Functions.streams; answer = g.F.Functions.answer; declared = g.F.Functions.declared }) (plan_of c.args.root c.args.ir.items c.args.exprs.now.items) c.order.result.now (subst (λ ns. IsSurvey (plan_of c.args.root c.args.ir.items c.args.exprs.now.items) ns) (sym c.order.ensures) (survey-of (plan_of c.args.root c.args.ir.items c.args.exprs.now.items) c.in_ok-survey.survey c.in_ok-survey.ensures.reached c.in_ok-survey.ensures.once c.in_ok-survey.ensures.inputs_first c.in_ok-survey.ensures.complete c.in_ok-survey.ensures.in_range c.in_ok-survey.ensures.no_circle c.in_ok-survey.ensures.depth c.in_ok-survey.ensures.occurrences)) c.in_err-check_caches.field-0.0 c.in_err-check_caches.ensures.refused)
+    passed-on (IsPlanError (g.F.Functions.told c.args.functions.now) (plan_of c.args.root c.args.ir.items c.args.exprs.now.items)) c.in_err-check_caches.field-0.0 c.from_residual-in_err-check_caches.result c.from_residual-in_err-check_caches.ensures.1
+    (cache-error (g.F.Functions.told c.args.functions.now) (plan_of c.args.root c.args.ir.items c.args.exprs.now.items) c.order.result.now (subst (λ ns. IsSurvey (plan_of c.args.root c.args.ir.items c.args.exprs.now.items) ns) (sym c.order.ensures) (survey-of (plan_of c.args.root c.args.ir.items c.args.exprs.now.items) c.in_ok-survey.survey c.in_ok-survey.ensures.reached c.in_ok-survey.ensures.once c.in_ok-survey.ensures.inputs_first c.in_ok-survey.ensures.complete c.in_ok-survey.ensures.in_range c.in_ok-survey.ensures.no_circle c.in_ok-survey.ensures.depth c.in_ok-survey.ensures.occurrences)) c.in_err-check_caches.field-0.0 c.in_err-check_caches.ensures.refused)
 
 pub returns-in_err-check_caches-clause-steps : goal.returns-in_err-check_caches-clause-steps
 returns-in_err-check_caches-clause-steps g c =

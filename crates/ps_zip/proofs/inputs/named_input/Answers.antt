@@ -1,6 +1,6 @@
 use Rattle.std.proofs.Common.{◌≡◌, sym, ◌∙◌}
 use Rattle.std.specs.Prelude.{None, Some}
-use Rattle.ps_eval.proofs.Evaluating.{no_kind}
+use Rattle.ps_expr_eval.proofs.Evaluating.{no_kind}
 use Rattle.ps_frame.specs.Tables.{field_index}
 use Rattle.ps_zip.proofs.Results.{named-result}
 use Rattle.ps_zip.proofs.inputs.named_input.Goals as goal

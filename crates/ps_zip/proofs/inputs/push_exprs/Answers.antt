@@ -1,7 +1,7 @@
 use Rattle.std.specs.Prelude.{IsSome}
 use Rattle.ps_frame.specs.Trees.{IsComplete, tree_at}
 use Rattle.ps_frame.specs.Typing.{kind_over}
-use Rattle.ps_plan.specs.declared.ir.ExprIR.{ExprIR}
+use Rattle.ps_meaning.specs.declared.options.ExprIR.{ExprIR}
 use Rattle.ps_zip.proofs.Steps.{adds-more, all-image}
 use Rattle.ps_zip.proofs.inputs.push_exprs.Goals as goal
 

@@ -1,6 +1,6 @@
 use Rattle.std.proofs.Common.{take}
 use Rattle.ps_frame.specs.Trees.{tree_at}
-use Rattle.ps_plan.specs.Steps.{key_trees}
+use Rattle.ps_meaning.specs.Steps.{key_trees}
 use Rattle.ps_zip.specs.Inputs.{AddsExprs}
 use Rattle.ps_zip.proofs.inputs.push_exprs.Given as goal
 

@@ -1,7 +1,7 @@
 use Rattle.std.proofs.Common.{subst, sym}
 use Rattle.std.specs.List.{AllByRecursion}
 use Rattle.ps_frame.specs.Trees.{tree_at}
-use Rattle.ps_plan.specs.Steps.{key_trees}
+use Rattle.ps_meaning.specs.Steps.{key_trees}
 use Rattle.ps_zip.proofs.Keyed.{added-fit, alone-error, alone-keeps}
 use Rattle.ps_zip.proofs.Results.{if_err, if_ok}
 use Rattle.ps_zip.specs.Inputs.{FitsItsKind}

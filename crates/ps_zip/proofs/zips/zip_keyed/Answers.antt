@@ -1,5 +1,5 @@
 use Rattle.ps_frame.specs.Trees.{tree_at}
-use Rattle.ps_plan.specs.Steps.{key_trees}
+use Rattle.ps_meaning.specs.Steps.{key_trees}
 use Rattle.ps_zip.proofs.Keyed.{added-fit, keyed-error, keyed-keeps}
 use Rattle.ps_zip.proofs.Results.{if_err, if_ok}
 use Rattle.ps_zip.proofs.zips.zip_keyed.Goals as goal

@@ -1,6 +1,6 @@
 use Rattle.std.proofs.Common.{IsTrue, refl}
 use Rattle.ps_frame.proofs.Gathers.{list_all-gathered, list_all-picked}
-use Rattle.ps_frame.specs.Typed.{all_fit}
+use Rattle.ps_frame.specs.Series.{all_fit}
 use Rattle.ps_frame.specs.Values.{fits_kind}
 use Rattle.ps_frame.specs.declared.value.Value.TheVariants as val
 use Rattle.ps_frame.proofs.column.Column.copied.Goals as goal

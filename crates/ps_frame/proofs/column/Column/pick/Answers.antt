@@ -1,7 +1,7 @@
 use Rattle.std.proofs.Common.{◌≡◌, subst, get_or, refl}
 use Rattle.std.specs.Prelude.{IfOk, map}
 use Rattle.ps_frame.proofs.Gathers.{column-gathered, column-within}
-use Rattle.ps_frame.specs.Typed.{Typed}
+use Rattle.ps_frame.specs.Series.{Series}
 use Rattle.ps_frame.proofs.column.Column.pick.Goals as goal
 
 made : (c : goal.In_ok-new-in-Some) → c.in_ok-new-in-Some.field-0 ≡ map (λ i. get_or c.in-Some.places i 0) c.args.rows.now
@@ -16,4 +16,4 @@ pub returns-in_ok-new-in-Some-clause-picked : goal.returns-in_ok-new-in-Some-cla
 returns-in_ok-new-in-Some-clause-picked c =
     let a = c.self.inside in
     let same = column-gathered a.dtype a.run a.places c.in-Some.places c.args.self.now c.args.rows.now c.in_ok-new-in-Some.field-0 c.self.view_is c.in-Some.is (rw (c.in_ok-new-in-Some.ensures.made, c.in_ok-places-in-Some.ensures.picked, c.as_slice.ensures, c.as_slice-in-Some.ensures) refl) c.requires in
-    subst (λ (t : Typed). IfOk c.of_places.result (λ part. part ≡ t)) same c.of_places.ensures.made
+    subst (λ (t : Series). IfOk c.of_places.result (λ part. part ≡ t)) same c.of_places.ensures.made

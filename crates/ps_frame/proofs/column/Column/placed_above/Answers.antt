@@ -4,7 +4,7 @@ use Rattle.ps_frame.proofs.Lists.{list_all-append}
 use Rattle.ps_frame.specs.EndToEnd.{end_to_end}
 use Rattle.ps_frame.specs.Frames.{above}
 use Rattle.ps_frame.specs.Gathered.{places_of}
-use Rattle.ps_frame.specs.Typed.{all_fit}
+use Rattle.ps_frame.specs.Series.{all_fit}
 use Rattle.ps_frame.specs.Values.{fits_kind}
 use Rattle.ps_frame.proofs.column.Column.placed_above.Goals as goal
 

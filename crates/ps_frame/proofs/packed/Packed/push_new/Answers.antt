@@ -2,7 +2,7 @@ use Rattle.std.proofs.Common.{◌≡◌, ◌∷◌, ◌++◌, [], List, ℕ, len
 use Rattle.std.specs.Prelude.{Some}
 use Rattle.ps_frame.proofs.Packing.{on_err, packed-new, packed-wider}
 use Rattle.ps_frame.specs.Gathered.{picked}
-use Rattle.ps_frame.specs.Typed.{Typed}
+use Rattle.ps_frame.specs.Series.{Series}
 use Rattle.ps_frame.specs.declared.value.Value.{Value}
 use Rattle.ps_frame.proofs.packed.Packed.push_new.Goals as goal
 
@@ -12,7 +12,7 @@ returns-in_err-push-2-clause-refused c =
     let wide = c.push.new.self.items in
     let made = c.in_ok-push.ensures.items ∙ ap (λ (v : Value). a.few.items ++ v ∷ []) c.in_ok-copy.ensures.same in
     let same =
-    ap (λ (places : List ℕ). let t : Typed = record { kind = a.dtype; values = picked (Some places) wide } in t) c.in_err-push-2.ensures.items
+    ap (λ (places : List ℕ). let t : Series = record { kind = a.dtype; values = picked (Some places) wide } in t) c.in_err-push-2.ensures.items
     ∙ packed-wider a.dtype a.few.items a.places.items c.args.self.now c.args.value.now wide c.self.view_is c.self.invariant.0 made in
     on_err c.from_residual-in_err-push-2.result same
 

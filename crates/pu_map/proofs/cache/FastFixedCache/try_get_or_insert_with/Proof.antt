@@ -38,9 +38,9 @@ use Rattle.std.specs.Prelude.{IsOkAnd}
 use Rattle.std.specs.Option.{UnwrapsOrElse}
 use Rattle.std.specs.contracts.result.Result as result
 use Rattle.std.proofs.result.Result.TheLaws as result_laws
-use Rattle.pu_order.specs.contracts.error.PolarsUtilsError as utils_error
-use Rattle.pu_order.proofs.error.PolarsUtilsError.TheLaws as utils_error_laws
-use Rattle.pu_order.specs.declared.error.PolarsUtilsError.TheVariants as refusal
+use Rattle.pu_base.specs.contracts.error.PolarsUtilsError as utils_error
+use Rattle.pu_base.proofs.error.PolarsUtilsError.TheLaws as utils_error_laws
+use Rattle.pu_base.specs.declared.error.PolarsUtilsError.TheVariants as refusal
 use Rattle.pu_map.specs.Cache.{key_hash, place_of, place_to_fill, value_at, AnswersCopy, set_apart}
 use Rattle.pu_map.specs.CacheLends.{lends_got, lends_tried}
 use Rattle.pu_map.specs.declared.cache.Refusal.TheVariants.{Function}

@@ -1,0 +1,11 @@
+// Trials of expressions: operators, kinds, computed columns, and evaluation over a table.
+#![tactic(auto)]
+
+#[cfg(test)]
+mod computed;
+#[cfg(test)]
+mod evaluation;
+#[cfg(test)]
+mod kinds;
+#[cfg(test)]
+mod operators;

@@ -1,0 +1,15 @@
+pub mod Arenas
+pub mod CacheRow
+pub mod ChoiceLaw
+pub mod Doubling
+pub mod ExprRows
+pub mod Faults
+pub mod JoinRow
+pub mod NoOthers
+pub mod Once
+pub mod OneWhole
+pub mod RefusedPlans
+pub mod Rows
+pub mod SmallCases
+pub mod SomeMeaning
+pub mod UnbrokenPlan

@@ -1,8 +1,0 @@
-use Rattle.std.proofs.Common.{◌≡◌, [], ◌∷◌}
-use Rattle.ps_eval.specs.Cellwise.{unary_row}
-use Rattle.ps_eval.specs.Held.{cells_grown}
-use Rattle.ps_eval.specs.Rows.{cells_from}
-use Rattle.ps_eval.proofs.elementwise.unary_cells.Given as goal
-
-abbrev pub invariant-loop-i : goal.invariant-loop-i
-invariant-loop-i l = cells_grown l.cells ≡ cells_from (unary_row l.op) (l.input ∷ []) l.i

@@ -1,6 +1,0 @@
-use Rattle.std.proofs.Common.{refl}
-use Rattle.ps_eval.proofs.WholeOperands.{whole-kept}
-use Rattle.ps_eval.proofs.part.whole_part.Goals as goal
-
-pub returns-clause-kept : goal.returns-clause-kept
-returns-clause-kept c = whole-kept _ c.args.values.items refl refl

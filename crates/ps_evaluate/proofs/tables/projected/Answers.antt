@@ -1,6 +1,0 @@
-use Rattle.ps_plan.specs.Steps.{project}
-use Rattle.ps_evaluate.proofs.OverInputs.{gives-at}
-use Rattle.ps_evaluate.proofs.tables.projected.Goals as goal
-
-pub returns-clause-table : goal.returns-clause-table
-returns-clause-table c = gives-at c.args.at.0 (project c.args.names.now) _ _ c.project.result c.only.ensures c.project.ensures.projection

@@ -1,5 +1,0 @@
-use Rattle.ps_evaluate.proofs.TableSteps.{union-alike}
-use Rattle.ps_evaluate.proofs.tables.united.Goals as goal
-
-pub union-requires-clause-alike : goal.union-requires-clause-alike
-union-requires-clause-alike c = union-alike c.args.cut c.args.inputs.now c.args.schema.now c.requires

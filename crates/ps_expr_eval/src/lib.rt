@@ -1,0 +1,14 @@
+// The column that an expression gives over a table.
+#![tactic(auto)]
+
+pub mod aggregate;
+pub mod computed;
+pub mod elementwise;
+pub mod evaluate;
+pub mod filter;
+mod growing;
+pub mod lengths;
+mod picked_cells;
+pub mod sort_by;
+pub mod sources;
+pub mod whole;

@@ -1,0 +1,14 @@
+pub mod Begins
+pub mod Containing
+pub mod EvalFits
+pub mod EvalUnder
+pub mod Fits
+pub mod HStackFits
+pub mod MeaningFits
+pub mod OneInput
+pub mod RowFits
+pub mod SchemaLaw
+pub mod StepFits
+pub mod StepWithin
+pub mod Under
+pub mod WithinLemmas

@@ -1,5 +1,0 @@
-use Rattle.ps_plan.proofs.ChoiceLaw.{means-same}
-use Rattle.ps_plan.proofs.laws.choices_count_at_held_ids.Goals as goal
-
-pub returns : goal.returns
-returns c = λ F c d t T same m. means-same F c d same m

@@ -1,5 +1,0 @@
-use Rattle.ps_plan.proofs.MeaningFits.{means-fits}
-use Rattle.ps_plan.proofs.laws.rows_fit_their_schema.Goals as goal
-
-pub returns : goal.returns
-returns c = λ F choice t T lawful typed m. means-fits F lawful choice m typed

@@ -1,5 +1,0 @@
-use Rattle.ps_plan.proofs.SchemaLaw.{means-schema}
-use Rattle.ps_plan.proofs.laws.tables_have_their_schema.Goals as goal
-
-pub returns : goal.returns
-returns c = λ F choice t T lawful m. means-schema F lawful choice m

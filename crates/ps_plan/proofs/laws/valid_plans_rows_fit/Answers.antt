@@ -1,6 +1,0 @@
-use Rattle.ps_plan.proofs.MeaningFits.{means-fits}
-use Rattle.ps_plan.proofs.ValidTyped.{reached-typed}
-use Rattle.ps_plan.proofs.laws.valid_plans_rows_fit.Goals as goal
-
-pub returns : goal.returns
-returns c = λ F choice plan n T lawful valid holds reached m. means-fits F lawful choice m (reached-typed F plan valid holds n reached)

@@ -1,8 +1,0 @@
-use Rattle.ps_rowwise.proofs.Tested.{typed-at}
-use Rattle.ps_rowwise.proofs.tests.evaluated_in.Goals as goal
-
-pub evaluate-requires-clause-expression : goal.evaluate-requires-clause-expression
-evaluate-requires-clause-expression c = (typed-at _ _ _ c.requires.entries c.requires.schema c.requires.number).0
-
-pub evaluate-requires-clause-kind : goal.evaluate-requires-clause-kind
-evaluate-requires-clause-kind c = (typed-at _ _ _ c.requires.entries c.requires.schema c.requires.number).1

@@ -1,0 +1,305 @@
+// Runs of the program over sources and sinks in memory.
+use ps_exec::gate::NoGate;
+use std::alloc::Global;
+use std::sync::Wait;
+use std::test::Fail;
+use std::thread::Threads;
+use tool_run::functions::ToolFunctions;
+use tool_run::reading::MAX_DOCUMENT_BYTES;
+use tool_run::sink::{MemSink, StdSink};
+use tool_run::source::{MemSource, StdSource};
+use tool_run::tool::run_tool;
+
+const FILTER: &str =
+    r#"{"tables":[[["a","int",[1,2,3]]]],"exprs":[["col","a"],["int",1],["gt",0,1]],"nodes":[["scan",0,null],["filter",0,2],["sink",1]],"root":2}"#;
+
+/// What a run is given.
+#[derive(Drop)]
+pub(crate) struct Given<'a> {
+    pub(crate) words: &'a [&'a str],
+    pub(crate) document: &'a [u8],
+    pub(crate) chunk: usize,
+    pub(crate) failing_read: Option<u64>,
+    pub(crate) room: usize,
+    pub(crate) err_fails: bool,
+}
+
+/// What a run left.
+#[derive(Drop)]
+pub(crate) struct Left {
+    pub(crate) status: u8,
+    pub(crate) out: Vec<u8>,
+    pub(crate) err: Vec<u8>,
+}
+
+pub(crate) fn whole(document: &str) -> Given<'_> {
+    Given {
+        words: &["run"],
+        document: document.as_bytes(),
+        chunk: 4096,
+        failing_read: None,
+        room: 4096,
+        err_fails: false,
+    }
+}
+
+pub(crate) fn run<R: Threads + Wait + Sync + Alloc<A = Global>>(
+    rt: &R,
+    given: &Given<'_>,
+) -> Result<Left, Fail> {
+    let alloc = rt.alloc();
+    let mut words = Vec::new(alloc);
+    for word in given.words {
+        words.push(String::from_str(alloc, word)?)?;
+    }
+    let mut failing = Vec::new(alloc);
+    if let Some(call) = given.failing_read {
+        failing.push(call)?;
+    }
+    let bytes = Vec::from_slice(alloc, given.document)?;
+    let chunk = given.chunk.max(1);
+    let mut source = MemSource::new(bytes, chunk, failing);
+    // By hand, for a message of its own, as below.
+    let Ok(mut out) = MemSink::new(alloc, given.room, Vec::new(alloc)) else {
+        return Err(Fail::from("no memory"));
+    };
+    let mut err_failing = Vec::new(alloc);
+    if given.err_fails {
+        err_failing.push(0)?;
+    }
+    let Ok(mut err) = MemSink::new(alloc, 64, err_failing) else {
+        return Err(Fail::from("no memory"));
+    };
+    let ended = run_tool(
+        rt,
+        alloc,
+        words.as_slice(),
+        &mut source,
+        &mut out,
+        &mut err,
+        &ToolFunctions,
+        &NoGate,
+    );
+    Ok(Left {
+        status: ended.status,
+        out: Vec::from_slice(alloc, out.bytes())?,
+        err: Vec::from_slice(alloc, err.bytes())?,
+    })
+}
+
+#[test]
+fn documents_are_answered_or_refused(rt: HostRuntime) -> Result<(), Fail> {
+    let table: [(&str, u8, &str, &str); 6] = [
+        (FILTER, 0, "a\n2\n3\n", ""),
+        (
+            r#"{"root":4,"nodes":[["scan",0,null],["group_by",0,[["k",0]],[["s",2]],true,null],["join",0,1,"left",[0],[0],null,false,"m:m",null],["sort",2,[1],[true],[false],[1,2]],["sink",3]],"exprs":[["col","k"],["col","a"],["sum",1]],"tables":[[["k","str",["x","y","x"]],["a","int",[1,2,3]]]]}"#,
+            0,
+            "k,a,s\ny,2,2\nx,1,4\n",
+            "",
+        ),
+        (
+            r#"{"tables":[[["a","int",[9223372036854775808]]]],"exprs":[],"nodes":[["scan",0,null],["sink",0]],"root":1}"#,
+            3,
+            "",
+            "BadDocument\n",
+        ),
+        ("", 3, "", "BadJson\n"),
+        ("[1.5]", 3, "", "BadDocument\n"),
+        (
+            r#"{"tables":[],"exprs":[],"nodes":[],"root":0}"#,
+            4,
+            "",
+            "InvalidPlan Shape at 0\n",
+        ),
+    ];
+    for (document, status, out, err) in table {
+        let left = run(&rt, &whole(document))?;
+        assert_eq!(rt; left.status, status);
+        assert_eq!(rt; left.out.as_slice(), out.as_bytes());
+        assert_eq!(rt; left.err.as_slice(), err.as_bytes());
+    }
+    Ok(())
+}
+
+#[test]
+fn other_words_are_no_command(rt: HostRuntime) -> Result<(), Fail> {
+    let table: [&[&str]; 5] = [
+        &[],
+        &["trace"],
+        &["run", "run"],
+        &["run", "--workers", "0"],
+        &["run", "--rows"],
+    ];
+    for words in table {
+        let given = Given {
+            words,
+            ..whole(FILTER)
+        };
+        let left = run(&rt, &given)?;
+        assert_eq!(rt; left.status, 2);
+        assert_eq!(rt; left.out.len(), 0);
+        assert_eq!(rt; left.err.as_slice(), "Usage\n".as_bytes());
+    }
+    Ok(())
+}
+
+#[test]
+fn options_change_no_answer(rt: HostRuntime) -> Result<(), Fail> {
+    let table: [&[&str]; 2] = [
+        &["run", "--serial"],
+        &[
+            "run",
+            "--rows",
+            "1",
+            "--workers",
+            "256",
+            "--partitions",
+            "3",
+            "--seed",
+            "7",
+        ],
+    ];
+    for words in table {
+        let given = Given {
+            words,
+            ..whole(FILTER)
+        };
+        let left = run(&rt, &given)?;
+        assert_eq!(rt; left.status, 0);
+        assert_eq!(rt; left.out.as_slice(), "a\n2\n3\n".as_bytes());
+    }
+    Ok(())
+}
+
+#[test]
+fn help_and_version_are_told(rt: HostRuntime) -> Result<(), Fail> {
+    let help =
+        "plan_tool answers queries: a document of tables and a plan on standard input, the table as CSV on standard output.\n\nplan_tool run [--workers N] [--rows N] [--partitions N] [--seed N] [--serial]\nplan_tool --help\nplan_tool --version\n";
+    let table: [(&[&str], &str); 2] = [(&["--help"], help), (&["--version"], "plan_tool 0.1.0\n")];
+    for (words, text) in table {
+        let given = Given {
+            words,
+            ..whole(FILTER)
+        };
+        let left = run(&rt, &given)?;
+        assert_eq!(rt; left.status, 0);
+        assert_eq!(rt; left.out.as_slice(), text.as_bytes());
+        assert_eq!(rt; left.err.len(), 0);
+    }
+    Ok(())
+}
+
+#[test]
+fn each_read_may_fail(rt: HostRuntime) -> Result<(), Fail> {
+    // One byte a call, and one call more for the end.
+    for call in 0..FILTER.len() as u64 + 1 {
+        let given = Given {
+            chunk: 1,
+            failing_read: Some(call),
+            ..whole(FILTER)
+        };
+        let left = run(&rt, &given)?;
+        assert_eq!(rt; left.status, 6);
+        assert_eq!(rt; left.out.len(), 0);
+        assert_eq!(rt; left.err.as_slice(), "ReadFault\n".as_bytes());
+    }
+    let given = Given {
+        chunk: 1,
+        ..whole(FILTER)
+    };
+    assert_eq!(rt; run(&rt, &given)?.status, 0);
+    Ok(())
+}
+
+#[test]
+fn room_may_end(rt: HostRuntime) -> Result<(), Fail> {
+    let text = "a\n2\n3\n".as_bytes();
+    for room in 0..text.len() {
+        let given = Given {
+            room,
+            ..whole(FILTER)
+        };
+        let left = run(&rt, &given)?;
+        assert_eq!(rt; left.status, 7);
+        assert_eq!(rt; left.out.as_slice(), &text[..room]);
+        assert_eq!(rt; left.err.as_slice(), "WriteFault\n".as_bytes());
+    }
+    let given = Given {
+        room: text.len(),
+        ..whole(FILTER)
+    };
+    assert_eq!(rt; run(&rt, &given)?.status, 0);
+    Ok(())
+}
+
+#[test]
+fn a_line_that_fails_keeps_the_status(rt: HostRuntime) -> Result<(), Fail> {
+    let given = Given {
+        words: &["walk"],
+        err_fails: true,
+        ..whole(FILTER)
+    };
+    let left = run(&rt, &given)?;
+    assert_eq!(rt; left.status, 2);
+    assert_eq!(rt; left.err.len(), 0);
+    Ok(())
+}
+
+#[test]
+fn a_document_that_is_cut_is_none(rt: HostRuntime) -> Result<(), Fail> {
+    for len in 0..FILTER.len() {
+        let given = Given {
+            document: &FILTER.as_bytes()[..len],
+            ..whole(FILTER)
+        };
+        let left = run(&rt, &given)?;
+        assert_eq!(rt; left.status, 3);
+        assert_eq!(rt; left.err.as_slice(), "BadJson\n".as_bytes());
+    }
+    Ok(())
+}
+
+#[test]
+fn one_byte_too_many_is_too_long(rt: HostRuntime) -> Result<(), Fail> {
+    let spaces = vec![in rt.alloc(); b' '; MAX_DOCUMENT_BYTES + 1]?;
+    let given = Given {
+        document: spaces.as_slice(),
+        chunk: MAX_DOCUMENT_BYTES,
+        ..whole("")
+    };
+    let left = run(&rt, &given)?;
+    assert_eq!(rt; left.status, 8);
+    assert_eq!(rt; left.out.len(), 0);
+    assert_eq!(rt; left.err.as_slice(), "TooLong\n".as_bytes());
+    let given = Given {
+        document: &spaces.as_slice()[1..],
+        chunk: MAX_DOCUMENT_BYTES,
+        ..whole("")
+    };
+    assert_eq!(rt; run(&rt, &given)?.status, 3);
+    Ok(())
+}
+
+#[test]
+fn adapters_read_and_write(rt: HostRuntime) -> Result<(), Fail> {
+    let alloc = rt.alloc();
+    let mut words = Vec::new(alloc);
+    words.push(String::from_str(alloc, "run")?)?;
+    let mut source = StdSource::new(FILTER.as_bytes());
+    let mut out = StdSink::new(Vec::<u8>::new(alloc));
+    let mut err = StdSink::new(Vec::<u8>::new(alloc));
+    let ended = run_tool(
+        &rt,
+        alloc,
+        words.as_slice(),
+        &mut source,
+        &mut out,
+        &mut err,
+        &ToolFunctions,
+        &NoGate,
+    );
+    assert_eq!(rt; ended.status, 0);
+    assert_eq!(rt; out.writer().as_slice(), "a\n2\n3\n".as_bytes());
+    assert_eq!(rt; err.writer().len(), 0);
+    Ok(())
+}

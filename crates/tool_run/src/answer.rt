@@ -1,0 +1,126 @@
+// The answer to a document.
+ghost use Rattle.std.specs.Prelude.{◌≡◌, IfErr, IfOk};
+ghost use Rattle.ps_exec.specs.Queries.{IsQueryAnswer, IsQueryError};
+ghost use Rattle.ps_survey.specs.Flaws.{plan_of};
+ghost use Rattle.tool_run.specs.Answers.{HasPlan, IsPlanText, IsUnanswered};
+ghost use Rattle.tool_run.specs.Errors.{IsOutcomeOf};
+
+use crate::csv_text::csv_text;
+use crate::outcome::Outcome;
+use ps_document::document::{Document, DocumentError, read_document};
+use ps_exec::gate::Gate;
+use ps_exec::query::{run_query, run_query_serial};
+use ps_frame::frame::DataFrame;
+use ps_frame::functions::Functions;
+use ps_frame::refusal::{Compute, PolarsError, PolarsResult};
+use ps_options::options::Options;
+use std::alloc::Global;
+use std::sync::Wait;
+use std::thread::Threads;
+
+/// The text that answers the document of these bytes, or how the run ends without one.
+pub(crate) fn answer<R: Threads + Wait + Sync, F: Functions, G: Gate>(
+    rt: &R,
+    alloc: Global,
+    bytes: Vec<u8>,
+    options: &Options,
+    serial: bool,
+    functions: &F,
+    gate: &G,
+) -> Result<Vec<u8>, Outcome>
+    ensures text { IfOk result (λ text. HasPlan bytes.items (λ plan. IsPlanText (F.told functions.now) plan text.items)) }
+    ensures outcome { IfErr result (IsUnanswered (F.told functions.now) bytes.items) }
+{
+    // By hand, since the contract says which outcome each error has.
+    match read_document(alloc, bytes) {
+        Ok(document) => match text_of(rt, alloc, document, options, serial, functions, gate) {
+            Ok(text) => Ok(text),
+            Err(error) => Err(unanswered(alloc, &error)),
+        },
+        Err(error) => Err(unread(error)),
+    }
+}
+
+fn unread(error: DocumentError) -> Outcome
+    ensures json { error ≡ DocumentError.BadJson → result ≡ Outcome.BadJson }
+    ensures document { error ≡ DocumentError.BadDocument → result ≡ Outcome.BadDocument }
+    ensures memory { error ≡ DocumentError.OutOfMemory → result ≡ Outcome.OutOfMemory }
+{
+    match error {
+        DocumentError::BadJson => Outcome::BadJson,
+        DocumentError::BadDocument => Outcome::BadDocument,
+        DocumentError::OutOfMemory => Outcome::OutOfMemory,
+    }
+}
+
+/// The text that answers a document: that of the table which its plan means.
+fn text_of<R: Threads + Wait + Sync, F: Functions, G: Gate>(
+    rt: &R,
+    alloc: Global,
+    document: Document,
+    options: &Options,
+    serial: bool,
+    functions: &F,
+    gate: &G,
+) -> PolarsResult<Vec<u8>>
+    ensures text { IfOk result (λ text. IsPlanText (F.told functions.now) (plan_of document.root document.nodes.items document.exprs.items) text.items) }
+    ensures error { IfErr result (IsQueryError (F.told functions.now) (plan_of document.root document.nodes.items document.exprs.items)) }
+{
+    let table = table_of(rt, alloc, document, options, serial, functions, gate)?;
+    csv_text(alloc, &table)
+}
+
+/// The table that a document's plan means, by workers or by this thread alone.
+fn table_of<R: Threads + Wait + Sync, F: Functions, G: Gate>(
+    rt: &R,
+    alloc: Global,
+    document: Document,
+    options: &Options,
+    serial: bool,
+    functions: &F,
+    gate: &G,
+) -> PolarsResult<DataFrame>
+    ensures table { IfOk result (IsQueryAnswer (F.told functions.now) (plan_of document.root document.nodes.items document.exprs.items)) }
+    ensures error { IfErr result (IsQueryError (F.told functions.now) (plan_of document.root document.nodes.items document.exprs.items)) }
+{
+    let Document {
+        nodes,
+        mut exprs,
+        root,
+    } = document;
+    let answer = if serial {
+        run_query_serial(alloc, root, nodes, &mut exprs, functions, options)
+    } else {
+        run_query(rt, alloc, root, nodes, &mut exprs, functions, gate, options)
+    };
+    // By hand, since a query always answers some table: its `None` never comes.
+    match answer {
+        Ok(Some(table)) => Ok(table),
+        Ok(None) => unreachable!(),
+        Err(error) => Err(error),
+    }
+}
+
+/// How a run ends whose query gave an error.
+fn unanswered(alloc: Global, error: &PolarsError) -> Outcome
+    ensures { IsOutcomeOf error.now result }
+{
+    let Ok(line) = format!(in alloc; "{error}\n") else {
+        return Outcome::OutOfMemory;
+    };
+    match error {
+        PolarsError::OutOfMemory => Outcome::OutOfMemory,
+        PolarsError::InvalidPlan { .. }
+        | PolarsError::ColumnNotFound { .. }
+        | PolarsError::Duplicate { .. }
+        | PolarsError::SchemaMismatch { .. }
+        | PolarsError::Unsupported { .. } => Outcome::Refused(line),
+        PolarsError::ComputeError { why, .. } => match why {
+            Compute::NoKey => Outcome::Refused(line),
+            Compute::StrictCast | Compute::SliceBound | Compute::Function => Outcome::Faulted(line),
+        },
+        PolarsError::ShapeMismatch { .. } | PolarsError::OutOfBounds { .. } => {
+            Outcome::Faulted(line)
+        }
+    }
+}
