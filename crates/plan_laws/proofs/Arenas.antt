@@ -48,15 +48,3 @@ twice_arenas =
 twice_unfolds : tree_of twice_arenas 6 ≡ twice_plan
 unfolding plan_within tree_within
 twice_unfolds = refl
-
--- a node over another one
-pub two-nodes : (nodes : List IR) (exprs : List AExpr) (below top : Node) (w : What) (offset : ℤ) (len : ℕ) → nodes ≡ entry.LeftOut w ∷ entry.Slice below offset len ∷ [] → below.0 ≡ 0 → top.0 ≡ 1 → IsPlan nodes exprs top
-unfolding plan_within
-two-nodes nodes exprs below top w offset len is at_below at_top = rw (is, at_top, at_below) (tt, ((tt, tt), tt))
-
--- the same of arenas that were just built
-pub added-nodes : (none one two : List IR) (exprs : List AExpr) (below top : Node) (w : What) (offset : ℤ) (len : ℕ) → none ≡ [] → one ≡ none ++ entry.LeftOut w ∷ [] → two ≡ one ++ entry.Slice below offset len ∷ [] → below.0 ≡ length none
-    → top.0 ≡ length one → IsPlan two exprs top
-added-nodes none one two exprs below top w offset len is_none is_one is_two at_below at_top =
-    let first : one ≡ entry.LeftOut w ∷ [] = is_one ∙ ap (λ ns. ns ++ entry.LeftOut w ∷ []) is_none in
-    two-nodes two exprs below top w offset len (is_two ∙ ap (λ ns. ns ++ entry.Slice below offset len ∷ []) first) (at_below ∙ ap (λ ns. length ns) is_none) (at_top ∙ ap (λ ns. length ns) first)

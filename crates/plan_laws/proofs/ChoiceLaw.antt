@@ -47,7 +47,7 @@ module _ (F : Functions) (at : ℕ) where
   some_given hconcat ts b = (_, refl)
   some_given (cache id) ts b = (_, refl)
   some_given (group_by o) ts b = (_, (_, order-self o.maintain_order _, refl))
-  some_given (join o) ts b = (_, (_, order-self _ _, refl))
+  some_given (join o) ts b = (_, refl)
   some_given (distinct o) ts b = (_, (_, order-self o.maintain_order _, refl))
   some_given (left_out what) ts b = absurd b
 

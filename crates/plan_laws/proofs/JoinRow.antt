@@ -12,7 +12,7 @@ use Rattle.plan_laws.specs.Examples.{by_k_last, by_name, by_total, customers, jo
 pub totals_meaning : (F : Functions) → IsWholeMeaning F totals_plan totals
 unfolding int_wrap
 totals_meaning F =
-    let j = two_means 2 (join on_customer) joined (scan_means F no_choice 0 orders) (scan_means F no_choice 1 customers) (joined, inl (joined.rows, in_order _, refl), refl) tt in
+    let j = two_means 2 (join on_customer) joined (scan_means F no_choice 0 orders) (scan_means F no_choice 1 customers) (joined, inl refl, refl) tt in
     let g = one_means 3 (group_by by_name) totals j (totals, inl (_, in_order _, refl), refl) tt in
     let s = one_means 4 (sort by_total) totals g (totals, inl refl, refl) tt in
     ((no_choice, one_means 5 memory_sink totals s (totals, inl refl, refl) tt), refl)
@@ -20,13 +20,13 @@ totals_meaning F =
 pub left_meaning : (F : Functions) → IsWholeMeaning F (left_plan false) (left_table val.Null)
 left_meaning F =
     let t = left_table val.Null in
-    let j = two_means 2 (join (on_k false)) t (scan_means F no_choice 0 left_keys) (scan_means F no_choice 1 right_keys) (t, inl (t.rows, in_order _, refl), refl) tt in
+    let j = two_means 2 (join (on_k false)) t (scan_means F no_choice 0 left_keys) (scan_means F no_choice 1 right_keys) (t, inl refl, refl) tt in
     let s = one_means 3 (sort by_k_last) t j (t, inl refl, refl) tt in
     ((no_choice, one_means 4 memory_sink t s (t, inl refl, refl) tt), refl)
 
 pub left_meaning_nulls : (F : Functions) → IsWholeMeaning F (left_plan true) (left_table (val.String (codes "y")))
 left_meaning_nulls F =
     let t = left_table (val.String (codes "y")) in
-    let j = two_means 2 (join (on_k true)) t (scan_means F no_choice 0 left_keys) (scan_means F no_choice 1 right_keys) (t, inl (t.rows, in_order _, refl), refl) tt in
+    let j = two_means 2 (join (on_k true)) t (scan_means F no_choice 0 left_keys) (scan_means F no_choice 1 right_keys) (t, inl refl, refl) tt in
     let s = one_means 3 (sort by_k_last) t j (t, inl refl, refl) tt in
     ((no_choice, one_means 4 memory_sink t s (t, inl refl, refl) tt), refl)

@@ -1,14 +1,14 @@
 -- A plan whose nodes all fix their order has at most one whole table: whatever it means is within one table.
 use Rattle.std.proofs.Common.{◌≡◌, ℕ, ◌⊎◌, List, [], ◌∷◌, ◌++◌, length, refl, sym, ap, subst, ◌∙◌, inl, inr}
 use Rattle.std.specs.Prelude.{Bool, true, false, map, Some, None, unwrap_or}
+use Rattle.ps_frame.specs.Causes.{Cause}
 use Rattle.ps_frame.specs.Functions.{Functions, IsLawful}
 use Rattle.ps_frame.specs.Tables.{Fields, Table, columns_of, no_rows, whole}
 use Rattle.ps_frame.specs.Zip.{Zipped, zipped}
 use Rattle.ps_frame.specs.declared.value.Value.{Value}
-use Rattle.ps_meaning.specs.Cases.{Case, Gives, GivesBeforeCut, columns_at, cut_by, first_table, if_whole, keyed, offset_of, out_schema, rows_table, second_table, sorted_rows, table_of, union_rows, where_true, hstack_places}
+use Rattle.ps_meaning.specs.Cases.{Case, Gives, GivesBeforeCut, columns_at, cut_by, first_table, if_whole, joined_table, keyed, out_schema, rows_table, second_table, sorted_rows, table_of, union_rows, where_true, with_group_causes, hstack_places}
 use Rattle.ps_meaning.specs.Distinct.{key_places, kept_rows, picked}
-use Rattle.ps_meaning.specs.Groups.{groups, groups_table}
-use Rattle.ps_meaning.specs.Joins.{join_rows, keeps_order}
+use Rattle.ps_meaning.specs.Groups.{Group, groups, groups_table}
 use Rattle.ps_meaning.specs.Laws.{IsBuilt}
 use Rattle.plan_laws.specs.Laws.{FixesOrder}
 use Rattle.ps_meaning.specs.Laws.{EachStep, EachStepOf}
@@ -18,13 +18,14 @@ use Rattle.ps_meaning.specs.PlanTrees.{PlanTree, node, missing, PlanTrees, no_tr
 use Rattle.ps_meaning.specs.Schemas.{names_of, schema_or_empty}
 use Rattle.ps_meaning.specs.Steps.{Cut, Step, scan, project, select, hstack, filter, slice, sink, row_index, user, sort, union, hconcat, cache, group_by, join, distinct, left_out, GroupStep, JoinStep, DistinctStep, exprs_of, step_cut}
 use Rattle.ps_meaning.specs.Within.{Within}
-use Rattle.ps_meaning.proofs.Begins.{Begins, append-empty_left, append-empty_right, begins-empty, begins-filter, begins-map}
+use Rattle.ps_meaning.proofs.Begins.{Begins, begins-empty, begins-filter, begins-map}
 use Rattle.plan_laws.proofs.ChoiceLaw.{some_given}
 use Rattle.ps_meaning.proofs.EvalUnder.{exprs-under, keyed-under}
 use Rattle.ps_meaning.proofs.SchemaLaw.{gives-schema, if_whole-schema}
 use Rattle.ps_meaning.proofs.StepWithin.{AllWithin, Part, all-columns, first-within, if_whole-within, index-within, moved, needs-whole, projected-within, schemas-same, second-within, union-within, user-within, within-same, zip-within}
 use Rattle.ps_meaning.proofs.Under.{Broken, zipped-under}
-use Rattle.ps_meaning.proofs.WithinLemmas.{cut_within}
+use Rattle.ps_meaning.proofs.WithinLemmas.{at_within}
+use Rattle.plan_laws.proofs.JoinWithin.{left-broken, right-broken}
 
 -- an order that is kept is the first one
 kept-order : {X : Type 0} (b : Bool) (xs ys : List X) → b ≡ true → IsOrder b xs ys → ys ≡ xs
@@ -32,27 +33,48 @@ kept-order true xs ys e h = h
 kept-order false xs ys e h = cc
 
 module _ (F : Functions) (lawful : IsLawful F) (at : ℕ) where
-  -- the table of a group-by in the order of its groups
-  abbrev grouped : GroupStep → Fields → Fields → Zipped → Table
-  grouped o s out z = groups_table out (groups at (exprs_of o.aggregates) s z.rows)
+  -- the table of a group-by from its groups
+  abbrev given-groups : GroupStep → Fields → List Cause → List Group → Table
+  given-groups o out causes gs = if_whole out (with_group_causes causes gs) (groups_table out gs)
+
+  no-causes : (cs : List Cause) (gs : List Group) → with_group_causes cs gs ≡ [] → cs ≡ []
+  no-causes [] gs e = refl
+  no-causes (c ∷ cs) gs e = cc
+
+  groups-within : (o : GroupStep) (p l : Table) (out out' : Fields) → out ≡ out' → Within p l
+      → Within (given-groups o out (keyed at (exprs_of o.keys) p).broken (groups at (exprs_of o.aggregates) p.schema (keyed at (exprs_of o.keys) p).rows))
+      (given-groups o out' (keyed at (exprs_of o.keys) l).broken (groups at (exprs_of o.aggregates) l.schema (keyed at (exprs_of o.keys) l).rows))
+  groups-within o p l out out' eo w = by (zipped-under false at _ _ (keyed-under at (exprs_of o.keys) p l w))
+    where
+      table : Fields → Fields → Zipped → Table
+      table s out z = given-groups o out z.broken (groups at (exprs_of o.aggregates) s z.rows)
+
+      by : (columns_of p ++ columns_at at (exprs_of o.keys) p ≡ columns_of l ++ columns_at at (exprs_of o.keys) l) ⊎ Broken (keyed at (exprs_of o.keys) p).broken × Begins (keyed at (exprs_of o.keys) p).rows (keyed at (exprs_of o.keys) l).rows
+          → Within (table p.schema out (keyed at (exprs_of o.keys) p)) (table l.schema out' (keyed at (exprs_of o.keys) l))
+      by (inl e) =
+          let same : table p.schema out (keyed at (exprs_of o.keys) p) ≡ table l.schema out' (keyed at (exprs_of o.keys) l) = λ i. table (w.same_schema i) (eo i) (zipped false at (e i)) in
+          record { same_schema = ap (λ (t : Table). t.schema) same; part = inl same }
+      by (inr (broken, b)) =
+          let gs = groups at (exprs_of o.aggregates) p.schema (keyed at (exprs_of o.keys) p).rows in
+          if_whole-within out (with_group_causes (keyed at (exprs_of o.keys) p).broken gs) (groups_table out gs) (table l.schema out' (keyed at (exprs_of o.keys) l)) (λ e. broken (no-causes (keyed at (exprs_of o.keys) p).broken gs e))
+          (if_whole-schema out' (with_group_causes (keyed at (exprs_of o.keys) l).broken (groups at (exprs_of o.aggregates) l.schema (keyed at (exprs_of o.keys) l).rows)) (groups_table out' (groups at (exprs_of o.aggregates) l.schema (keyed at (exprs_of o.keys) l).rows)) refl ∙ sym eo)
 
   join-within : (o : JoinStep) (p l q r : Table) (out out' : Fields) → out ≡ out' → Within p l → Within q r
-      → Within (if_whole out ((keyed at o.left_on p).broken ++ (keyed at o.right_on q).broken) (rows_table out (join_rows o p.schema q.schema (keyed at o.left_on p).rows (keyed at o.right_on q).rows)))
-      (if_whole out' ((keyed at o.left_on l).broken ++ (keyed at o.right_on r).broken) (rows_table out' (join_rows o l.schema r.schema (keyed at o.left_on l).rows (keyed at o.right_on r).rows)))
+      → Within (joined_table o p.schema q.schema out (keyed at o.left_on p) (keyed at o.right_on q)) (joined_table o l.schema r.schema out' (keyed at o.left_on l) (keyed at o.right_on r))
   join-within o p l q r out out' eo w v =
       by (zipped-under false at _ _ (keyed-under at o.left_on p l w)) (zipped-under false at _ _ (keyed-under at o.right_on q r v))
     where
       by : (columns_of p ++ columns_at at o.left_on p ≡ columns_of l ++ columns_at at o.left_on l) ⊎ Broken (keyed at o.left_on p).broken × Begins (keyed at o.left_on p).rows (keyed at o.left_on l).rows
           → (columns_of q ++ columns_at at o.right_on q ≡ columns_of r ++ columns_at at o.right_on r) ⊎ Broken (keyed at o.right_on q).broken × Begins (keyed at o.right_on q).rows (keyed at o.right_on r).rows
-          → Within (if_whole out ((keyed at o.left_on p).broken ++ (keyed at o.right_on q).broken) (rows_table out (join_rows o p.schema q.schema (keyed at o.left_on p).rows (keyed at o.right_on q).rows)))
-          (if_whole out' ((keyed at o.left_on l).broken ++ (keyed at o.right_on r).broken) (rows_table out' (join_rows o l.schema r.schema (keyed at o.left_on l).rows (keyed at o.right_on r).rows)))
+          → Within (joined_table o p.schema q.schema out (keyed at o.left_on p) (keyed at o.right_on q)) (joined_table o l.schema r.schema out' (keyed at o.left_on l) (keyed at o.right_on r))
       by (inl e) (inl f) =
-          let same : if_whole out ((keyed at o.left_on p).broken ++ (keyed at o.right_on q).broken) (rows_table out (join_rows o p.schema q.schema (keyed at o.left_on p).rows (keyed at o.right_on q).rows))
-          ≡ if_whole out' ((keyed at o.left_on l).broken ++ (keyed at o.right_on r).broken) (rows_table out' (join_rows o l.schema r.schema (keyed at o.left_on l).rows (keyed at o.right_on r).rows)) =
-          λ i. if_whole (eo i) ((zipped false at (e i)).broken ++ (zipped false at (f i)).broken) (rows_table (eo i) (join_rows o (w.same_schema i) (v.same_schema i) (zipped false at (e i)).rows (zipped false at (f i)).rows)) in
+          let same : joined_table o p.schema q.schema out (keyed at o.left_on p) (keyed at o.right_on q) ≡ joined_table o l.schema r.schema out' (keyed at o.left_on l) (keyed at o.right_on r) =
+          λ i. joined_table o (w.same_schema i) (v.same_schema i) (eo i) (zipped false at (e i)) (zipped false at (f i)) in
           record { same_schema = ap (λ (t : Table). t.schema) same; part = inl same }
-      by (inr (broken, b)) h = if_whole-within out ((keyed at o.left_on p).broken ++ (keyed at o.right_on q).broken) (rows_table out (join_rows o p.schema q.schema (keyed at o.left_on p).rows (keyed at o.right_on q).rows)) (if_whole out' ((keyed at o.left_on l).broken ++ (keyed at o.right_on r).broken) (rows_table out' (join_rows o l.schema r.schema (keyed at o.left_on l).rows (keyed at o.right_on r).rows))) (λ e. broken (append-empty_left (keyed at o.left_on p).broken (keyed at o.right_on q).broken e)) (if_whole-schema out' ((keyed at o.left_on l).broken ++ (keyed at o.right_on r).broken) (rows_table out' (join_rows o l.schema r.schema (keyed at o.left_on l).rows (keyed at o.right_on r).rows)) refl ∙ sym eo)
-      by (inl e) (inr (broken, b)) = if_whole-within out ((keyed at o.left_on p).broken ++ (keyed at o.right_on q).broken) (rows_table out (join_rows o p.schema q.schema (keyed at o.left_on p).rows (keyed at o.right_on q).rows)) (if_whole out' ((keyed at o.left_on l).broken ++ (keyed at o.right_on r).broken) (rows_table out' (join_rows o l.schema r.schema (keyed at o.left_on l).rows (keyed at o.right_on r).rows))) (λ e. broken (append-empty_right (keyed at o.left_on p).broken (keyed at o.right_on q).broken e)) (if_whole-schema out' ((keyed at o.left_on l).broken ++ (keyed at o.right_on r).broken) (rows_table out' (join_rows o l.schema r.schema (keyed at o.left_on l).rows (keyed at o.right_on r).rows)) refl ∙ sym eo)
+      by (inr (broken, b)) (inl f) =
+          left-broken o p.schema l.schema q.schema r.schema out out' w.same_schema v.same_schema eo (keyed at o.left_on p) (keyed at o.left_on l) (keyed at o.right_on q) (keyed at o.right_on r) broken b (ap (zipped false at) f)
+      by h (inr (broken, b)) =
+          right-broken o p.schema l.schema q.schema r.schema out out' w.same_schema v.same_schema eo (keyed at o.left_on p) (keyed at o.left_on l) (keyed at o.right_on q) (keyed at o.right_on r) broken
 
   distinct-within : (o : DistinctStep) (p l : Table) → Within p l
       → Within (if_whole p.schema p.broken (rows_table p.schema (kept_rows o.keep (key_places o p.schema) p.rows))) (if_whole l.schema l.broken (rows_table l.schema (kept_rows o.keep (key_places o l.schema) l.rows)))
@@ -81,7 +103,7 @@ module _ (F : Functions) (lawful : IsLawful F) (at : ℕ) where
       let first = first-within ps ls w in
       moved g h (zip-within false at _ _ (where_true (length (first_table ps).schema)) (where_true (length (first_table ls).schema)) _ _ first.same_schema (λ i. where_true (length (first.same_schema i)))
       (λ xs ys b. begins-map _ _ _ (begins-filter _ xs ys b)) (zipped-under false at _ _ (keyed-under at (e ∷ []) (first_table ps) (first_table ls) first)))
-  step-within (slice offset n) ps ls T K p w g h = moved g h (cut_within (offset_of offset) n (first_table ps) (first_table ls) (first-within ps ls w))
+  step-within (slice offset n) ps ls T K p w g h = moved g h (at_within offset n (first_table ps) (first_table ls) (first-within ps ls w))
   step-within (sink payload) ps ls T K p w g h = moved g h (first-within ps ls w)
   step-within (row_index name offset) ps ls T K p w g h =
       moved g h (index-within at _ _ (unwrap_or offset 0) (first_table ps) (first_table ls) (ap (schema_or_empty F (row_index name offset)) (schemas-same ps ls w)) (first-within ps ls w))
@@ -106,14 +128,11 @@ module _ (F : Functions) (lawful : IsLawful F) (at : ℕ) where
   step-within (group_by o) ps ls T K p w (gs, order, g) (hs, order', h) =
       let first = first-within ps ls w in
       let out = ap (schema_or_empty F (group_by o)) (schemas-same ps ls w) in
-      let a = g ∙ ap (λ gs. if_whole (out_schema F at (group_by o) ps) (keyed at (exprs_of o.keys) (first_table ps)).broken (groups_table (out_schema F at (group_by o) ps) gs)) (kept-order o.maintain_order _ gs p order) in
-      let b = h ∙ ap (λ gs. if_whole (out_schema F at (group_by o) ls) (keyed at (exprs_of o.keys) (first_table ls)).broken (groups_table (out_schema F at (group_by o) ls) gs)) (kept-order o.maintain_order _ hs p order') in
-      moved a b (needs-whole at (grouped o) (first_table ps).schema (first_table ls).schema _ _ _ _ (λ z. refl) first.same_schema out (zipped-under false at _ _ (keyed-under at (exprs_of o.keys) (first_table ps) (first_table ls) first)))
-  step-within (join o) ps ls T K p w (rows, order, g) (more, order', h) =
-      let out = ap (schema_or_empty F (join o)) (schemas-same ps ls w) in
-      let a = g ∙ ap (λ rows. if_whole (out_schema F at (join o) ps) ((keyed at o.left_on (first_table ps)).broken ++ (keyed at o.right_on (second_table ps)).broken) (rows_table (out_schema F at (join o) ps) rows)) (kept-order (keeps_order o.args.how) _ rows p order) in
-      let b = h ∙ ap (λ rows. if_whole (out_schema F at (join o) ls) ((keyed at o.left_on (first_table ls)).broken ++ (keyed at o.right_on (second_table ls)).broken) (rows_table (out_schema F at (join o) ls) rows)) (kept-order (keeps_order o.args.how) _ more p order') in
-      moved a b (join-within o (first_table ps) (first_table ls) (second_table ps) (second_table ls) _ _ out (first-within ps ls w) (second-within ps ls w))
+      let a = g ∙ ap (λ gs. given-groups o (out_schema F at (group_by o) ps) (keyed at (exprs_of o.keys) (first_table ps)).broken gs) (kept-order o.maintain_order _ gs p order) in
+      let b = h ∙ ap (λ gs. given-groups o (out_schema F at (group_by o) ls) (keyed at (exprs_of o.keys) (first_table ls)).broken gs) (kept-order o.maintain_order _ hs p order') in
+      moved a b (groups-within o (first_table ps) (first_table ls) _ _ out first)
+  step-within (join o) ps ls T K p w g h =
+      moved g h (join-within o (first_table ps) (first_table ls) (second_table ps) (second_table ls) _ _ (ap (schema_or_empty F (join o)) (schemas-same ps ls w)) (first-within ps ls w) (second-within ps ls w))
   step-within (distinct o) ps ls T K p w (rows, order, g) (more, order', h) =
       let a = g ∙ ap (λ rows. if_whole (first_table ps).schema (first_table ps).broken (rows_table (first_table ps).schema rows)) (kept-order o.maintain_order _ rows p order) in
       let b = h ∙ ap (λ rows. if_whole (first_table ls).schema (first_table ls).broken (rows_table (first_table ls).schema rows)) (kept-order o.maintain_order _ more p order') in
@@ -122,7 +141,7 @@ module _ (F : Functions) (lawful : IsLawful F) (at : ℕ) where
 
 cut_by-within : (cut : Cut) (p l : Table) → Within p l → Within (cut_by cut p) (cut_by cut l)
 cut_by-within None p l w = w
-cut_by-within (Some s) p l w = cut_within (offset_of s.0) s.1 p l w
+cut_by-within (Some s) p l w = at_within s.0 s.1 p l w
 
 module _ (F : Functions) (lawful : IsLawful F) where
   -- the table that a step gives, its rows in the order of the definitions

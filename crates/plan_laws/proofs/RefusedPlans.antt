@@ -16,7 +16,7 @@ use Rattle.ps_meaning.specs.Steps.{scan}
 use Rattle.ps_meaning.specs.declared.options.ExprIR.{ExprIR}
 use Rattle.ps_plan.specs.declared.ir.IR.{IR}
 use Rattle.plan_laws.specs.Examples.{a_frame, one_input, scan_of}
-use Rattle.plan_laws.specs.Refused.{above_one, by_function, circle, group_by_keys, named, negative_slice, number_as_predicate, over_a, project_all, root_below_sink, select_all, sort_by_keys, two_sinks, unknown_column, window_in_predicate}
+use Rattle.plan_laws.specs.Refused.{above_one, by_function, circle, group_by_keys, named, number_as_predicate, over_a, project_all, root_below_sink, select_all, sort_by_keys, two_sinks, unknown_column, window_in_predicate}
 
 abbrev nothing : List ℕ
 nothing = []
@@ -46,7 +46,6 @@ module _ (F : Functions) (e : IR) (exprs : List AExpr) (root : ℕ) (other : 0 �
   has_shape (no_input needs none) = needs
 
   is_supported : (w : What) → HasUnsupported plan 0 w → ⊥
-  is_supported what.NegativeOffset h = h
   is_supported what.Validation h = h
   is_supported what.RootNotSink h = other h.0
   is_supported what.FileSink h = h
@@ -97,9 +96,6 @@ sinks_refused F = reached F _ _ (invalid_plan why.Shape) (sink_below (λ e. cc) 
 
 pub window_refused : (F : Functions) → IsRefused F window_in_predicate 1 (unsupported what.Window)
 window_refused F = reached F _ _ (unsupported what.Window) (inr (expr_left_out 0 (record { from = 2; is_own = (0, omega arith, refl); way = onward (0, omega arith, refl) here }) refl))
-
-pub slice_refused : (F : Functions) → IsRefused F negative_slice 1 (unsupported what.NegativeOffset)
-slice_refused F = reached F _ _ (unsupported what.NegativeOffset) (inl tt)
 
 pub function_refused : (F : Functions) (n : ℕ) → F.count ≤ n → IsRefused F (by_function n) 1 (invalid_plan why.Shape)
 function_refused F n h = reached F _ _ (invalid_plan why.Shape) (function_missing h)

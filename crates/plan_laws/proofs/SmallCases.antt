@@ -40,7 +40,7 @@ no_union_schema F e = cc
 
 -- a zip of two inputs with a column of one name
 pub zip_repeats : (F : Functions) → BreaksNoRule F (rules_of (zip_node false)) (a_schema ∷ a_schema ∷ []) → ⊥
-zip_repeats F rules = rules.4 (duplicate (codes "a")) (inr refl)
+zip_repeats F rules = rules.3 (duplicate (codes "a")) (inr refl)
 
 -- a fault that is broadcast over no rows inside an aggregate
 abbrev lossy : Tree

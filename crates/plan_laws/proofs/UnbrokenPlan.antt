@@ -39,7 +39,7 @@ abbrev GivesOnly : Functions → Choice → PlanTree → Table → Type 0
 GivesOnly F choice t V = (U : Table) → MayGive F choice t U → U ≡ V
 
 -- a step without a slice that gives one table, and loses no causes
-once : (F : Functions) (at : ℕ) (step : Step) (ts : List Table) (V U : Table) → ((W : Table) → Gives F at step ts W → W ≡ V) → ((W : Table) → Gives F at step ts W → lost_causes F at step ts W.rows ≡ [])
+pub once : (F : Functions) (at : ℕ) (step : Step) (ts : List Table) (V U : Table) → ((W : Table) → Gives F at step ts W → W ≡ V) → ((W : Table) → Gives F at step ts W → lost_causes F at step ts W.rows ≡ [])
     → GivesBeforeCut F at step ts U → U ≡ V
 once F at step ts V U only none (inl g) = only U g
 once F at step ts V U only none (inr l) = absurd (l.2 (none l.0 l.1))

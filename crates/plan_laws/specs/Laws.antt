@@ -1,15 +1,25 @@
--- Words of the laws of meanings: which steps fix their order, and which cache ids a tree holds.
-use Rattle.std.specs.Prelude.{ℕ, ◌⊎◌, ◌≡◌, IsTrue, ⊤}
-use Rattle.ps_meaning.specs.Joins.{keeps_order}
+-- Words of the laws of meanings: which steps fix their order, which tables end alike, and which cache ids a tree holds.
+use Rattle.std.specs.Prelude.{ℕ, ◌⊎◌, ◌≡◌, List, [], ◌∷◌, flat_map, IsTrue, ⊤}
+use Rattle.ps_frame.specs.Causes.{Cause}
+use Rattle.ps_frame.specs.Tables.{Table}
 use Rattle.ps_meaning.specs.PlanTrees.{PlanTree, node, missing, PlanTrees, no_trees, tree}
-use Rattle.ps_meaning.specs.Steps.{Step, cache, group_by, join, distinct, left_out}
+use Rattle.ps_meaning.specs.Steps.{Step, cache, group_by, distinct}
+use Rattle.ps_meaning.specs.Within.{EndAlike}
 
--- a group-by or a distinct that maintains the order, a join that goes by the rows of its sides, and each other step
+-- a group-by or a distinct that maintains the order, and each other step
 abbrev pub FixesOrder : Step → Type 0
 FixesOrder (group_by o) = IsTrue o.maintain_order
 FixesOrder (distinct o) = IsTrue o.maintain_order
-FixesOrder (join o) = IsTrue (keeps_order o.args.how)
 FixesOrder _ = ⊤
+
+-- tables of which each two end alike
+abbrev pub AllEndAlike : List Table → List Table → Type 0
+AllEndAlike [] [] = ⊤
+AllEndAlike (p ∷ ps) (l ∷ ls) = EndAlike p l × AllEndAlike ps ls
+AllEndAlike _ _ = ⊥
+
+abbrev pub causes_of : List Table → List Cause
+causes_of ts = flat_map (λ (t : Table). t.broken) ts
 
 -- the step is a cache of this id
 abbrev pub IsCacheOf : ℕ → Step → Type 0

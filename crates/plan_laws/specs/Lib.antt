@@ -1,4 +1,9 @@
 pub mod Laws
 pub mod Examples
 pub mod Refused
+pub mod Ordered
+pub mod Broken
+pub mod Shapes
+pub mod Forgotten
+pub mod Lowered
 pub mod Unbroken

@@ -1,5 +1,5 @@
 -- Small plans that are refused.
-use Rattle.std.specs.Prelude.{ℕ, zero, suc, ◌+◌, Bool, true, false, negsuc, List, [], ◌∷◌, None, codes, pos}
+use Rattle.std.specs.Prelude.{ℕ, zero, suc, ◌+◌, Bool, true, false, List, [], ◌∷◌, None, codes, pos}
 use Rattle.pu_base.specs.declared.arena.Node.{Node}
 use Rattle.ps_frame.specs.Tables.{Frame}
 use Rattle.ps_frame.specs.declared.expr.AExpr.{AExpr}
@@ -51,10 +51,6 @@ window_in_predicate = over_a (filter_by 2) (expr.LeftOut what.Window ∷ expr.Li
 -- a sink over a sink
 abbrev pub two_sinks : Plan
 two_sinks = over_a (entry.Sink (node_of 0) sink_type.Memory) [] 2
-
--- a slice that begins before the first row
-abbrev pub negative_slice : Plan
-negative_slice = over_a (entry.Slice (node_of 0) (negsuc 0) 2) [] 2
 
 -- the function of a number
 abbrev pub by_function : ℕ → Plan

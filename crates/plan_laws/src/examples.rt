@@ -12,7 +12,7 @@ ghost use Rattle.plan_laws.specs.Examples.{a_frame, a_table, ab_without_rows, ar
 ghost use Rattle.ps_meaning.specs.Meaning.{Choice, IsBrokenBy, IsMeaning, IsWholeMeaning, Means};
 ghost use Rattle.ps_meaning.specs.StepRefusals.{TypingRefused, column_not_found, duplicate, invalid_plan, no_key, schema_mismatch, unsupported};
 ghost use Rattle.ps_plan.specs.Refusals.{IsRefused};
-ghost use Rattle.plan_laws.specs.Refused.{above_one, by_function, circle, doubling_plan, group_by_keys, named, negative_slice, node_of, number_as_predicate, project_all, root_below_sink, select_all, sort_by_keys, two_sinks, unknown_column, window_in_predicate};
+ghost use Rattle.plan_laws.specs.Refused.{above_one, by_function, circle, doubling_plan, group_by_keys, named, node_of, number_as_predicate, project_all, root_below_sink, select_all, sort_by_keys, two_sinks, unknown_column, window_in_predicate};
 ghost use Rattle.ps_meaning.specs.Steps.{Name};
 ghost use Rattle.ps_meaning.specs.declared.options.ExprIR.{ExprIR};
 
@@ -77,7 +77,6 @@ pub fn small_refusals()
     ensures no_group_key { (F : Functions) (aggs : List ExprIR) (exprs : List AExpr) → IsRefused F (group_by_keys [] aggs exprs) 1 no_key }
     ensures no_group_column { (F : Functions) → IsRefused F (group_by_keys [] [] []) 1 (unsupported what.NoColumns) }
     ensures name_twice { (F : Functions) → IsRefused F (select_all (named (codes "x") 0 ∷ named (codes "x") 0 ∷ []) (above_one (codes "a"))) 1 (duplicate (codes "x")) }
-    ensures negative_offset { (F : Functions) → IsRefused F negative_slice 1 (unsupported what.NegativeOffset) }
     ensures no_column { (F : Functions) → IsRefused F (project_all []) 1 (unsupported what.NoColumns) }
     ensures doubled_too_often { (F : Functions) (f : Frame) (k : ℕ) → 16 ≤ k → k ≤ 40 → IsRefused F (doubling_plan f) k (invalid_plan why.Limits) }
     ensures no_such_function { (F : Functions) (n : ℕ) → F.count ≤ n → IsRefused F (by_function n) 1 (invalid_plan why.Shape) }

@@ -1,5 +1,6 @@
 // Laws of meanings, as theorems of functions that do nothing.
-ghost use Rattle.std.specs.Prelude.{◌<◌, ◌≡◌, ◌≢◌, List, [], length, true, ℕ};
+ghost use Rattle.std.specs.Prelude.{◌<◌, ◌≡◌, ◌≢◌, ◌⊎◌, Contains, List, [], length, true, ℕ};
+ghost use Rattle.ps_frame.specs.Causes.{Cause};
 ghost use Rattle.ps_frame.specs.Functions.{Functions, IsLawful};
 ghost use Rattle.ps_frame.specs.Tables.{Table, columns_of};
 ghost use Rattle.ps_frame.specs.Trees.{IsExpression};
@@ -7,7 +8,7 @@ ghost use Rattle.ps_frame.specs.Zip.{zipped};
 ghost use Rattle.ps_meaning.specs.Cases.{Case};
 ghost use Rattle.ps_plan.specs.Graph.{ExprReachesItself, HasNoCircle, IsInRange, Path, Reached, operands_at};
 ghost use Rattle.ps_meaning.specs.Laws.{IsBuilt};
-ghost use Rattle.plan_laws.specs.Laws.{FixesOrder, HoldsId, StandsOver};
+ghost use Rattle.plan_laws.specs.Laws.{AllEndAlike, FixesOrder, HoldsId, StandsOver, causes_of};
 ghost use Rattle.ps_meaning.specs.Laws.{EachStep, FitsTable, HoldsFitting, IsTyped, SameCauses};
 ghost use Rattle.ps_plan.specs.Graph.{EachReached};
 ghost use Rattle.ps_meaning.specs.Meaning.{Choice, IsMeaning, IsWholeMeaning, Means};
@@ -16,6 +17,7 @@ ghost use Rattle.ps_plan.specs.Plans.{Plan, tree_of};
 ghost use Rattle.ps_plan.specs.Refusals.{IsValid};
 ghost use Rattle.ps_meaning.specs.Schemas.{tree_schema};
 ghost use Rattle.ps_meaning.specs.Steps.{Step};
+ghost use Rattle.ps_meaning.specs.Within.{EndAlike};
 
 /// A plan whose reached nodes all fix their order has at most one whole table, whatever the choices.
 pub fn at_most_one_whole_table()
@@ -70,4 +72,9 @@ pub fn valid_plans_are_typed()
 /// The rows that a node of a valid plan means have the values that its schema says, where the tables of scans do.
 pub fn valid_plans_rows_fit()
     ensures { (F : Functions) (choice : Choice) (plan : Plan) (n : ℕ) (T : Table) → IsLawful F → IsValid F plan → EachReached HoldsFitting plan → Reached plan n → Means F choice (tree_of plan n) T → FitsTable T }
+{}
+
+/// A step over tables that end alike gives a table that ends alike. What breaks the one breaks the other, or is a cause of an input.
+pub fn steps_keep_ends()
+    ensures { (F : Functions) (at : ℕ) (step : Step) (ps ls : List Table) (T : Table) → AllEndAlike ps ls → Case F at step ps T → (K : Table) × Case F at step ls K × EndAlike T K × ((c : Cause) → Contains T.broken c → Contains K.broken c ⊎ Contains (causes_of ps) c) }
 {}

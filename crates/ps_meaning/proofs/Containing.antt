@@ -1,5 +1,5 @@
 -- What a list contains behind its first item.
-use Rattle.std.proofs.Common.{ℕ, suc, List, ◌∷◌, refl, arith}
+use Rattle.std.proofs.Common.{suc, List, ◌∷◌, refl, arith}
 use Rattle.std.specs.Prelude.{Contains}
 
 pub contains-first : {A : Type 0} (x : A) (xs : List A) → Contains (x ∷ xs) x

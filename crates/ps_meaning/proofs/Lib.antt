@@ -1,5 +1,6 @@
 pub mod Begins
 pub mod Containing
+pub mod CutEnds
 pub mod EvalFits
 pub mod EvalUnder
 pub mod Fits

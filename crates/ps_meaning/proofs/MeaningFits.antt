@@ -15,7 +15,7 @@ use Rattle.ps_frame.specs.Zip.{Zipped}
 use Rattle.ps_frame.specs.declared.value.DataType.{DataType}
 use Rattle.ps_frame.specs.declared.value.DataType.TheVariants as kind
 use Rattle.ps_frame.specs.declared.value.Value.{Value}
-use Rattle.ps_meaning.specs.Cases.{Case, Gives, GivesBeforeCut, all_columns, columns_at, cut_by, first_table, keyed, offset_of, out_schema, schemas_of, second_table, table_of, union_rows, hstack_places}
+use Rattle.ps_meaning.specs.Cases.{Case, Gives, GivesBeforeCut, all_columns, columns_at, cut_by, first_table, keyed, out_schema, schemas_of, second_table, table_of, with_group_causes, union_rows, hstack_places}
 use Rattle.ps_meaning.specs.Distinct.{key_places, picked, places_in}
 use Rattle.ps_meaning.specs.Laws.{AreTyped, FitsKinds, FitsRow, FitsTable, HoldsFitting, IsTyped, IsTypedStep}
 use Rattle.ps_meaning.specs.Meaning.{Choice, Means, by_case, AllMean, none_mean, more_mean}
@@ -29,7 +29,7 @@ use Rattle.ps_meaning.proofs.Fits.{ColumnsFit, all-append, all-map, all-take, zi
 use Rattle.ps_meaning.proofs.HStackFits.{hstack-row}
 use Rattle.ps_meaning.proofs.RowFits.{columns-append, kinds-of_exprs, named-columns, picks-fit, table-columns}
 use Rattle.ps_meaning.proofs.SchemaLaw.{all_mean-schemas, first-is}
-use Rattle.ps_meaning.proofs.StepFits.{all-order, cut-fits, fields-split, group-table, join-rows, kept-all, numbered-fits, same-name, sorted-fits, user-fits, where-fits, whole-fits}
+use Rattle.ps_meaning.proofs.StepFits.{all-order, at-fits, fields-split, front-rows, group-table, join-rows, joined-fits, kept-all, numbered-fits, same-name, sorted-fits, user-fits, where-fits, whole-fits}
 use Rattle.ps_meaning.proofs.StepWithin.{united}
 
 -- expressions that have kinds
@@ -104,7 +104,7 @@ first-of : (ss : List Fields) → unwrap_or (slice_get ss 0) [] ≡ first_schema
 first-of [] = refl
 first-of (s ∷ ss) = refl
 
-joined-columns : (ts : List Table) → AllByRecursion FitsTable ts → ColumnsFit (kinds_of (joined_schemas (schemas_of ts))) (all_columns ts)
+pub joined-columns : (ts : List Table) → AllByRecursion FitsTable ts → ColumnsFit (kinds_of (joined_schemas (schemas_of ts))) (all_columns ts)
 joined-columns [] f = tt
 joined-columns (t ∷ ts) f =
     subst (λ ks. ColumnsFit ks (all_columns (t ∷ ts))) (sym (map-append (λ field. field.1) t.schema (joined_schemas (schemas_of ts))))
@@ -157,7 +157,7 @@ module _ (F : Functions) (lawful : IsLawful F) (at : ℕ) where
       let h = subst (λ (s : Fields). have_all_kinds s (e ∷ []) ≡ true) (sym (first-is ts)) typed.kinds in
       let k = keyed-fits at (e ∷ []) (first_table ts) (first-fits ts f) h in
       subst FitsTable (sym g) (where-fits (first_table ts).schema k.0 _ k.1)
-  gives-fits (slice offset n) ts T typed held f g = subst FitsTable (sym g) (cut-fits (offset_of offset) n (first_table ts) (first-fits ts f))
+  gives-fits (slice offset n) ts T typed held f g = subst FitsTable (sym g) (at-fits offset n (first_table ts) (first-fits ts f))
   gives-fits (sink payload) ts T typed held f g = subst FitsTable (sym g) (first-fits ts f)
   gives-fits (row_index name offset) ts T typed held f g =
       let fits = numbered-fits name (first_table ts).schema (unwrap_or offset 0) _ (all-take (FitsRow (first_table ts).schema) _ (first_table ts).rows (first-fits ts f)) in
@@ -182,9 +182,9 @@ module _ (F : Functions) (lawful : IsLawful F) (at : ℕ) where
       let width : kinds_of (out_schema F at (group_by o) ts) ≡ kinds_of parts.0 ++ kinds_of parts.1 =
       ap (λ o. kinds_of (unwrap_or o [])) out.1 ∙ ap kinds_of parts.4 ∙ map-append (λ field. field.1) parts.0 parts.1 in
       subst FitsTable (sym g)
-      (whole-fits (out_schema F at (group_by o) ts) (keyed at (exprs_of o.keys) (first_table ts)).broken _ refl
+      (whole-fits (out_schema F at (group_by o) ts) (with_group_causes (keyed at (exprs_of o.keys) (first_table ts)).broken gs) _ refl
       (group-table at o.aggregates (first_table ts).schema parts.1 (kinds_of parts.0) parts.3 (keyed at (exprs_of o.keys) (first_table ts)).rows rows o.maintain_order (out_schema F at (group_by o) ts) gs width order))
-  gives-fits (join o) ts T typed held f (rows, order, g) =
+  gives-fits (join o) ts T typed held f g =
       let kinds = both (have_all_kinds (first_schema (schemas_of ts)) o.left_on) (have_all_kinds (second_schema (schemas_of ts)) o.right_on) typed.kinds in
       let hl = subst (λ (s : Fields). have_all_kinds s o.left_on ≡ true) (sym (first-is ts)) kinds.0 in
       let hr = subst (λ (s : Fields). have_all_kinds s o.right_on ≡ true) (sym (second-is ts)) kinds.1 in
@@ -193,24 +193,25 @@ module _ (F : Functions) (lawful : IsLawful F) (at : ℕ) where
       let l = keyed-fits at o.left_on (first_table ts) (first-fits ts f) hl in
       let r = keyed-fits at o.right_on (second_table ts) (second-fits ts f) hr in
       let all = join-rows o (first_table ts).schema (second_table ts).schema l.0 r.0 dl dr (keyed at o.left_on (first_table ts)).rows (keyed at o.right_on (second_table ts)).rows l.1 r.1 in
+      let front = front-rows o (first_table ts).schema (second_table ts).schema l.0 r.0 dl dr (keyed at o.left_on (first_table ts)).rows (keyed at o.right_on (second_table ts)).rows l.1 r.1 in
       let schema : out_schema F at (join o) ts ≡ join_schema o (first_table ts).schema (second_table ts).schema = λ i. join_schema o (sym (first-is ts) i) (sym (second-is ts) i) in
       subst FitsTable (sym g)
-      (whole-fits (out_schema F at (join o) ts) ((keyed at o.left_on (first_table ts)).broken ++ (keyed at o.right_on (second_table ts)).broken) _ refl
-      (under _ (join_schema o (first_table ts).schema (second_table ts).schema) rows schema (all-order (FitsRow (join_schema o (first_table ts).schema (second_table ts).schema)) _ _ rows order all)))
+      (joined-fits o (first_table ts).schema (second_table ts).schema (out_schema F at (join o) ts) (keyed at o.left_on (first_table ts)) (keyed at o.right_on (second_table ts))
+      (under _ (join_schema o (first_table ts).schema (second_table ts).schema) _ schema all) (under _ (join_schema o (first_table ts).schema (second_table ts).schema) _ schema front))
   gives-fits (distinct o) ts T typed held f (rows, order, g) =
       let all = kept-all (FitsRow (first_table ts).schema) o.keep (key_places o (first_table ts).schema) (first_table ts).rows (first-fits ts f) in
       subst FitsTable (sym g) (whole-fits (first_table ts).schema (first_table ts).broken _ refl (all-order (FitsRow (first_table ts).schema) o.maintain_order _ rows order all))
   gives-fits (left_out what) ts T typed held f g = absurd g
 
-  before-fits : (step : Step) (ts : List Table) (T : Table) → IsTypedStep F step (schemas_of ts) → HoldsFitting step → AllByRecursion FitsTable ts → GivesBeforeCut F at step ts T → FitsTable T
+  pub before-fits : (step : Step) (ts : List Table) (T : Table) → IsTypedStep F step (schemas_of ts) → HoldsFitting step → AllByRecursion FitsTable ts → GivesBeforeCut F at step ts T → FitsTable T
   before-fits step ts T typed held f (inl g) = gives-fits step ts T typed held f g
   before-fits step ts T typed held f (inr (V, g, some, e)) = subst FitsTable (sym e) tt
 
-  cut_by-fits : (cut : Cut) (t : Table) → FitsTable t → FitsTable (cut_by cut t)
+  pub cut_by-fits : (cut : Cut) (t : Table) → FitsTable t → FitsTable (cut_by cut t)
   cut_by-fits None t f = f
-  cut_by-fits (Some c) t f = cut-fits (offset_of c.0) c.1 t f
+  cut_by-fits (Some c) t f = at-fits c.0 c.1 t f
 
-  case-fits : (step : Step) (ts : List Table) (T : Table) → IsTypedStep F step (schemas_of ts) → HoldsFitting step → AllByRecursion FitsTable ts → Case F at step ts T → FitsTable T
+  pub case-fits : (step : Step) (ts : List Table) (T : Table) → IsTypedStep F step (schemas_of ts) → HoldsFitting step → AllByRecursion FitsTable ts → Case F at step ts T → FitsTable T
   case-fits step ts T typed held f (U, before, e) = subst FitsTable (sym e) (cut_by-fits (step_cut step) U (before-fits step ts U typed held f before))
 
 module _ (F : Functions) (lawful : IsLawful F) (c : Choice) where

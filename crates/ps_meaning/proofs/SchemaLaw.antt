@@ -1,14 +1,16 @@
 -- A table that a node may mean has the node's schema.
-use Rattle.std.proofs.Common.{◌≡◌, ℕ, List, [], ◌∷◌, refl, sym, ap, subst, ◌∙◌, inl, inr}
-use Rattle.std.specs.Prelude.{Bool, true, false, Option, Some, None, if◌then◌else◌, unwrap_or}
-use Rattle.ps_frame.specs.Causes.{Cause}
+use Rattle.std.proofs.Common.{◌≡◌, ℕ, ℤ, pos, negsuc, ◌+◌, List, [], ◌∷◌, ◌++◌, refl, sym, ap, subst, ◌∙◌, inl, inr}
+use Rattle.std.specs.Prelude.{Bool, true, false, nat_eq, not, ◌&&◌, Option, Some, None, if◌then◌else◌, unwrap_or}
+use Rattle.ps_frame.specs.Causes.{Cause, is_empty}
 use Rattle.ps_frame.specs.Functions.{Functions, IsLawful}
-use Rattle.ps_frame.specs.Tables.{Fields, Frame, Table}
-use Rattle.ps_meaning.specs.Cases.{Case, Gives, GivesBeforeCut, answer_or_fault, cut_by, first_table, if_whole, schemas_of, stream_table, user_table}
+use Rattle.ps_frame.specs.Tables.{Fields, Frame, Table, no_rows}
+use Rattle.ps_meaning.specs.Cases.{Case, Gives, GivesBeforeCut, answer_or_fault, cut_at, cut_by, first_table, if_whole, joined_table, keyed, out_schema, rows_from_end, rows_table, schemas_of, second_table, stream_table, user_table}
+use Rattle.ps_frame.specs.Zip.{Zipped}
 use Rattle.ps_meaning.specs.Meaning.{Choice, Means, by_case, AllMean, none_mean, more_mean}
+use Rattle.ps_meaning.specs.Joins.{front_rows, goes_by_left, join_rows}
 use Rattle.ps_meaning.specs.PlanTrees.{PlanTree, PlanTrees}
 use Rattle.ps_meaning.specs.Schemas.{first_schema, schema_or_empty, tree_schema, tree_schemas}
-use Rattle.ps_meaning.specs.Steps.{Cut, Step, scan, project, select, hstack, filter, slice, sink, row_index, user, sort, union, hconcat, cache, group_by, join, distinct, left_out, step_cut}
+use Rattle.ps_meaning.specs.Steps.{Cut, JoinStep, Step, scan, project, select, hstack, filter, slice, sink, row_index, user, sort, union, hconcat, cache, group_by, join, distinct, left_out, step_cut}
 
 pub first-is : (ts : List Table) → (first_table ts).schema ≡ first_schema (schemas_of ts)
 first-is [] = refl
@@ -18,9 +20,27 @@ pub if_whole-schema : (s : Fields) (cs : List Cause) (t : Table) → t.schema �
 if_whole-schema s [] t e = e
 if_whole-schema s (c ∷ cs) t e = refl
 
-cut_by-schema : (cut : Cut) (t : Table) → (cut_by cut t).schema ≡ t.schema
+pub cut_at-schema : (offset : ℤ) (n : ℕ) (t : Table) → (cut_at offset n t).schema ≡ t.schema
+cut_at-schema (pos offset) n t = refl
+cut_at-schema (negsuc k) n t = by (nat_eq n 0)
+  where
+    by : (b : Bool) → (if b then no_rows t.schema [] else if_whole t.schema t.broken (rows_table t.schema (rows_from_end (k + 1) n t.rows))).schema ≡ t.schema
+    by true = refl
+    by false = if_whole-schema t.schema t.broken _ refl
+
+pub cut_by-schema : (cut : Cut) (t : Table) → (cut_by cut t).schema ≡ t.schema
 cut_by-schema None t = refl
-cut_by-schema (Some s) t = refl
+cut_by-schema (Some s) t = cut_at-schema s.0 s.1 t
+
+pub joined-schema : (o : JoinStep) (left right out : Fields) (l r : Zipped) → (joined_table o left right out l r).schema ≡ out
+joined-schema o left right out l r = by (goes_by_left o.args.how && (is_empty r.broken && not (is_empty l.broken)))
+  where
+    front : Table
+    front = record { schema = out; rows = front_rows o left right l.rows r.rows; broken = l.broken }
+
+    by : (b : Bool) → (if b then front else if_whole out (l.broken ++ r.broken) (rows_table out (join_rows o left right l.rows r.rows))).schema ≡ out
+    by true = refl
+    by false = if_whole-schema out (l.broken ++ r.broken) _ refl
 
 module _ (F : Functions) (lawful : IsLawful F) (at : ℕ) where
   answer-schema : (n : ℕ) (f : Frame) (o : Option Frame) → F.answer n f ≡ o → (answer_or_fault at (unwrap_or (F.declared n f.schema) []) o).schema ≡ unwrap_or (F.declared n f.schema) []
@@ -44,7 +64,7 @@ module _ (F : Functions) (lawful : IsLawful F) (at : ℕ) where
   gives-schema (select es) ts T g = ap (λ (U : Table). U.schema) g
   gives-schema (hstack es) ts T g = ap (λ (U : Table). U.schema) g
   gives-schema (filter e) ts T g = ap (λ (U : Table). U.schema) g ∙ first-is ts
-  gives-schema (slice offset n) ts T g = ap (λ (U : Table). U.schema) g ∙ first-is ts
+  gives-schema (slice offset n) ts T g = ap (λ (U : Table). U.schema) g ∙ cut_at-schema offset n (first_table ts) ∙ first-is ts
   gives-schema (sink payload) ts T g = ap (λ (U : Table). U.schema) g ∙ first-is ts
   gives-schema (row_index name offset) ts T g = ap (λ (U : Table). U.schema) g
   gives-schema (user n) ts T g =
@@ -55,11 +75,12 @@ module _ (F : Functions) (lawful : IsLawful F) (at : ℕ) where
   gives-schema hconcat ts T g = ap (λ (U : Table). U.schema) g
   gives-schema (cache id) ts T g = ap (λ (U : Table). U.schema) g ∙ first-is ts
   gives-schema (group_by o) ts T g = ap (λ (U : Table). U.schema) g.2 ∙ if_whole-schema _ _ _ refl
-  gives-schema (join o) ts T g = ap (λ (U : Table). U.schema) g.2 ∙ if_whole-schema _ _ _ refl
+  gives-schema (join o) ts T g = ap (λ (U : Table). U.schema) g
+      ∙ joined-schema o (first_table ts).schema (second_table ts).schema (out_schema F at (join o) ts) (keyed at o.left_on (first_table ts)) (keyed at o.right_on (second_table ts))
   gives-schema (distinct o) ts T g = ap (λ (U : Table). U.schema) g.2 ∙ if_whole-schema _ _ _ refl ∙ first-is ts
   gives-schema (left_out what) ts T g = absurd g
 
-  before-schema : (step : Step) (ts : List Table) (T : Table) → GivesBeforeCut F at step ts T → T.schema ≡ schema_or_empty F step (schemas_of ts)
+  pub before-schema : (step : Step) (ts : List Table) (T : Table) → GivesBeforeCut F at step ts T → T.schema ≡ schema_or_empty F step (schemas_of ts)
   before-schema step ts T (inl g) = gives-schema step ts T g
   before-schema step ts T (inr l) = ap (λ (U : Table). U.schema) l.3 ∙ gives-schema step ts l.0 l.1
 

@@ -1,28 +1,28 @@
 -- The rows that a step gives fit its schema, over inputs whose rows fit theirs.
-use Rattle.std.proofs.Common.{◌≡◌, ℕ, zero, suc, ◌+◌, List, [], ◌∷◌, ◌++◌, length, get_or, take, drop, replicate, refl, sym, ap, subst, ◌∙◌, arith}
+use Rattle.std.proofs.Common.{◌≡◌, ℕ, zero, suc, ◌+◌, ◌-◌, List, [], ◌∷◌, ◌++◌, length, get_or, take, drop, replicate, ℤ, pos, negsuc, refl, sym, ap, subst, ◌∙◌, arith}
 use Rattle.std.proofs.lemmas.List.{map-append}
 use Rattle.std.proofs.lemmas.List.Sorted.{All-permutation}
 use Rattle.std.proofs.lemmas.Slice.Eq.{bytes_eq-Decides}
 use Rattle.std.specs.Cmp.{nat_eq_equiv}
 use Rattle.std.specs.Cmp.Lexicographic.{lists_equiv}
 use Rattle.std.specs.Str.{bytes_eq}
-use Rattle.std.specs.Prelude.{All, Bool, true, false, not, ◌||◌, map, flat_map, if◌then◌else◌, Option, Some, None, unwrap_or}
+use Rattle.std.specs.Prelude.{All, Bool, true, false, nat_eq, not, ◌&&◌, ◌||◌, map, flat_map, if◌then◌else◌, Option, Some, None, unwrap_or}
 use Rattle.std.specs.List.{AllByRecursion, list_any}
 use Rattle.ps_frame.proofs.Lists.{both}
 use Rattle.ps_frame.specs.Causes.{Cause, Cell, Column, value, faulty, cell_value, is_empty}
 use Rattle.ps_frame.specs.Frames.{has_distinct_names, has_name, kinds_of}
 use Rattle.ps_frame.specs.Functions.{Functions, IsLawful}
-use Rattle.ps_frame.specs.Tables.{Fields, Frame, Table, field_kind}
+use Rattle.ps_frame.specs.Tables.{Fields, Frame, Table, field_kind, no_rows}
 use Rattle.ps_frame.specs.Typing.{kind_over}
 use Rattle.ps_frame.specs.Zip.{Zipped}
 use Rattle.ps_frame.specs.declared.value.DataType.{DataType}
 use Rattle.ps_frame.specs.declared.value.DataType.TheVariants as kind
 use Rattle.ps_frame.specs.declared.value.Value.{Value}
 use Rattle.ps_frame.specs.declared.value.Value.TheVariants as val
-use Rattle.ps_meaning.specs.Cases.{answer_or_fault, columns_at, cut_table, if_whole, numbered, sorted_rows, stream_table, streamed, user_table, where_true}
+use Rattle.ps_meaning.specs.Cases.{answer_or_fault, columns_at, cut_at, cut_table, if_whole, joined_table, numbered, rows_from_end, rows_table, sorted_rows, stream_table, streamed, user_table, where_true}
 use Rattle.ps_meaning.specs.Distinct.{distinct_rows, first_rows, kept_rows, last_rows, picked, places_in, same_key}
 use Rattle.ps_meaning.specs.Groups.{Group, group_of, group_rows, groups, groups_table, keys_of, only_value, rows_before_faulty}
-use Rattle.ps_meaning.specs.Joins.{Pair, all_pairs, join_rows, joined_by, joined_row, left_where, matched_pairs, pairs_of, rows_match, unmatched_left, unmatched_right}
+use Rattle.ps_meaning.specs.Joins.{Pair, all_pairs, fills_left, fills_right, front_pairs, front_rows, goes_by_left, join_rows, joined_by, joined_row, last_pairs, left_where, pairs_in_place, pairs_of, rows_match, unmatched_right}
 use Rattle.ps_meaning.specs.Laws.{FitsKinds, FitsRow, FitsTable}
 use Rattle.ps_meaning.specs.Orders.{IsOrder}
 use Rattle.ps_meaning.specs.Schemas.{both as both_of, fields_of, join_schema, left_output, left_part, names_of, right_output, right_part, suffix_of, suffixed}
@@ -62,6 +62,15 @@ cut-fits offset n t f = all-drop (FitsRow t.schema) offset _ (all-take (FitsRow 
 pub whole-fits : (s : Fields) (causes : List Cause) (t : Table) → t.schema ≡ s → FitsTable t → FitsTable (if_whole s causes t)
 whole-fits s [] t e f = f
 whole-fits s (c ∷ cs) t e f = tt
+
+pub at-fits : (offset : ℤ) (n : ℕ) (t : Table) → FitsTable t → FitsTable (cut_at offset n t)
+at-fits (pos offset) n t f = cut-fits offset n t f
+at-fits (negsuc k) n t f = by (nat_eq n 0)
+  where
+    by : (b : Bool) → FitsTable (if b then no_rows t.schema [] else if_whole t.schema t.broken (rows_table t.schema (rows_from_end (k + 1) n t.rows)))
+    by true = tt
+    by false = whole-fits t.schema t.broken (rows_table t.schema (rows_from_end (k + 1) n t.rows)) refl
+        (all-drop (FitsRow t.schema) (length t.rows - (k + 1)) (take (length t.rows + n - (k + 1)) t.rows) (all-take (FitsRow t.schema) (length t.rows + n - (k + 1)) t.rows f))
 
 pub sorted-fits : (o : SortStep) (s : Fields) (js : List DataType) (rows : List (List Value)) → AllByRecursion (FitsKinds (kinds_of s ++ js)) rows → AllByRecursion (FitsRow s) (sorted_rows o (length s) rows)
 sorted-fits o s js rows f =
@@ -283,16 +292,30 @@ module _ (l r : Fields) (ks js : List DataType) (nulls : Bool) where
   right-nulls = subst (λ n. FitsKinds (kinds_of r) (replicate n val.Null)) (kinds-width r) (nulls-fit (kinds_of r))
 
   module _ (ls rs : List (List Value)) (f : AllByRecursion (FitsKinds (kinds_of l ++ ks)) ls) (g : AllByRecursion (FitsKinds (kinds_of r ++ js)) rs) where
-    matched-fit : AllByRecursion Both (matched_pairs nulls (length l) (length r) ls rs)
-    matched-fit =
-        all-flat Both LeftRow (pairs_of nulls (length l) (length r) rs)
-        (λ row h. all-map RightRow Both (λ q. (take (length l) row, take (length r) q)) (λ q k. (left-of row h, right-of q k)) _ (all-filter RightRow (rows_match nulls (length l) (length r) row) rs g)) ls f
+    -- what a left row gives in its place
+    placed-fit : (fills matches : Bool) (row : List Value) → LeftRow row
+        → AllByRecursion Both (if matches then pairs_of nulls (length l) (length r) rs row else (if fills then (take (length l) row, replicate (length r) val.Null) ∷ [] else []))
+    placed-fit fills true row h = all-map RightRow Both (λ q. (take (length l) row, take (length r) q)) (λ q k. (left-of row h, right-of q k)) _ (all-filter RightRow (rows_match nulls (length l) (length r) row) rs g)
+    placed-fit true false row h = ((left-of row h, right-nulls), tt)
+    placed-fit false false row h = tt
 
-    unmatched-left : AllByRecursion Both (unmatched_left nulls (length l) (length r) ls rs)
-    unmatched-left = all-map LeftRow Both (λ row. (take (length l) row, replicate (length r) val.Null)) (λ row h. (left-of row h, right-nulls)) _ (all-filter LeftRow _ ls f)
+    front-fit : (type : JoinType) → AllByRecursion Both (front_pairs nulls (length l) (length r) type ls rs)
+    front-fit type =
+        all-flat Both LeftRow (pairs_in_place nulls (length l) (length r) (fills_left type) rs)
+        (λ row h. placed-fit (fills_left type) (list_any (rows_match nulls (length l) (length r) row) rs) row h) ls f
 
     unmatched-right : AllByRecursion Both (unmatched_right nulls (length l) (length r) ls rs)
     unmatched-right = all-map RightRow Both (λ row. (replicate (length l) val.Null, take (length r) row)) (λ row h. (left-nulls, right-of row h)) _ (all-filter RightRow _ rs g)
+
+    last-fit : (type : JoinType) → AllByRecursion Both (last_pairs nulls (length l) (length r) type ls rs)
+    last-fit type = by (fills_right type)
+      where
+        by : (b : Bool) → AllByRecursion Both (if b then unmatched_right nulls (length l) (length r) ls rs else [])
+        by true = unmatched-right
+        by false = tt
+
+    ordered-fit : (type : JoinType) → AllByRecursion Both (front_pairs nulls (length l) (length r) type ls rs ++ last_pairs nulls (length l) (length r) type ls rs)
+    ordered-fit type = all-append Both _ _ (front-fit type) (last-fit type)
 
     crossed-fit : AllByRecursion Both (all_pairs nulls (length l) (length r) ls rs)
     crossed-fit = all-flat Both LeftRow _ (λ row h. all-map RightRow Both (λ q. (take (length l) row, take (length r) q)) (λ q k. (left-of row h, right-of q k)) rs g) ls f
@@ -315,12 +338,10 @@ module _ (o : JoinStep) (l r : Fields) (ks js : List DataType) (dl : has_distinc
       (λ p q. append-fits (kinds_of (left_part h o l)) (kinds_of (right_part h o r)) (picked (lefts h) p.0) (picked (rights h) p.1) (picks-own l (left_part h o l) (left-own h o l dl) p.0 q.0) (picks-own r (right_part h o r) (right-own h o r dr) p.1 q.1)) ps
 
   joined-rows : (h : JoinType) → AllByRecursion (FitsKinds (kinds_of (left_part h o l) ++ kinds_of (right_part h o r))) (map (joined_row (lefts h) (rights h)) (joined_by o.args.join_nulls (length l) (length r) h ls rs))
-  joined-rows how.Inner = both-rows how.Inner _ (matched-fit l r ks js o.args.join_nulls ls rs f g)
-  joined-rows how.Left = both-rows how.Left _ (all-append (Both l r ks js o.args.join_nulls) _ _ (matched-fit l r ks js o.args.join_nulls ls rs f g) (unmatched-left l r ks js o.args.join_nulls ls rs f g))
-  joined-rows how.Right = both-rows how.Right _ (all-append (Both l r ks js o.args.join_nulls) _ _ (matched-fit l r ks js o.args.join_nulls ls rs f g) (unmatched-right l r ks js o.args.join_nulls ls rs f g))
-  joined-rows how.Full =
-      both-rows how.Full _ (all-append (Both l r ks js o.args.join_nulls) _ _ (matched-fit l r ks js o.args.join_nulls ls rs f g)
-      (all-append (Both l r ks js o.args.join_nulls) _ _ (unmatched-left l r ks js o.args.join_nulls ls rs f g) (unmatched-right l r ks js o.args.join_nulls ls rs f g)))
+  joined-rows how.Inner = both-rows how.Inner _ (ordered-fit l r ks js o.args.join_nulls ls rs f g how.Inner)
+  joined-rows how.Left = both-rows how.Left _ (ordered-fit l r ks js o.args.join_nulls ls rs f g how.Left)
+  joined-rows how.Right = both-rows how.Right _ (ordered-fit l r ks js o.args.join_nulls ls rs f g how.Right)
+  joined-rows how.Full = both-rows how.Full _ (ordered-fit l r ks js o.args.join_nulls ls rs f g how.Full)
   joined-rows how.Cross = both-rows how.Cross _ (crossed-fit l r ks js o.args.join_nulls ls rs f g)
   joined-rows how.Semi = left-rows how.Semi (where-left l r ks js o.args.join_nulls ls rs f g true)
     where
@@ -337,3 +358,19 @@ module _ (o : JoinStep) (l r : Fields) (ks js : List DataType) (dl : has_distinc
 
   pub join-rows : AllByRecursion (FitsRow (join_schema o l r)) (join_rows o l r ls rs)
   join-rows = subst (λ ks. AllByRecursion (FitsKinds ks) (join_rows o l r ls rs)) (sym (join-kinds o l r)) (joined-rows o.args.how)
+
+  -- the rows that the left rows alone give
+  pub front-rows : AllByRecursion (FitsRow (join_schema o l r)) (front_rows o l r ls rs)
+  front-rows = subst (λ ks. AllByRecursion (FitsKinds ks) (front_rows o l r ls rs)) (sym (join-kinds o l r)) (both-rows o.args.how _ (front-fit l r ks js o.args.join_nulls ls rs f g o.args.how))
+
+-- the table of a join, where its rows fit, and those that the left rows alone give
+pub joined-fits : (o : JoinStep) (left right out : Fields) (l r : Zipped) → AllByRecursion (FitsRow out) (join_rows o left right l.rows r.rows) → AllByRecursion (FitsRow out) (front_rows o left right l.rows r.rows)
+    → FitsTable (joined_table o left right out l r)
+joined-fits o left right out l r all front = by (goes_by_left o.args.how && (is_empty r.broken && not (is_empty l.broken)))
+  where
+    part : Table
+    part = record { schema = out; rows = front_rows o left right l.rows r.rows; broken = l.broken }
+
+    by : (b : Bool) → FitsTable (if b then part else if_whole out (l.broken ++ r.broken) (rows_table out (join_rows o left right l.rows r.rows)))
+    by true = front
+    by false = whole-fits out (l.broken ++ r.broken) _ refl all

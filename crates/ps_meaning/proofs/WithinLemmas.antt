@@ -1,18 +1,19 @@
 -- A step over a table within another gives a table within what the step gives over the other.
-use Rattle.std.proofs.Common.{◌≡◌, ℕ, zero, suc, ◌+◌, ◌-◌, ◌^◌, ◌≤◌, ◌⊎◌, Bool, true, false, cond, List, [], ◌∷◌, ◌++◌, take, drop, length, ℤ, refl, sym, ap, subst, ◌∙◌, inl, inr, arith, length-append}
-use Rattle.std.specs.Prelude.{nat_eq, nat_le, ◌||◌}
+use Rattle.std.proofs.Common.{◌≡◌, ℕ, zero, suc, ◌+◌, ◌-◌, ◌^◌, ◌≤◌, ◌⊎◌, Bool, true, false, cond, List, [], ◌∷◌, ◌++◌, take, drop, length, ℤ, pos, negsuc, ◌≢◌, refl, sym, ap, subst, ◌∙◌, inl, inr, arith, append-nil, length-append}
+use Rattle.std.specs.Prelude.{nat_eq, nat_le, ◌||◌, if◌then◌else◌}
 use Rattle.std.proofs.lemmas.List.{take-append-le}
 use Rattle.std.proofs.Math.Nat.{min-le_left}
 use Rattle.ps_frame.proofs.Lists.{drop-take_sub}
 use Rattle.std.proofs.Math.Dec.{eqb-suc-zero}
 use Rattle.std.proofs.lemmas.Bool.{leb-true, le-leb}
-use Rattle.ps_frame.specs.Causes.{Cause}
+use Rattle.ps_frame.specs.Causes.{Cause, is_empty}
 use Rattle.ps_frame.specs.Functions.{Functions}
-use Rattle.ps_frame.specs.Tables.{IsWhole, Table}
+use Rattle.ps_frame.specs.Tables.{IsWhole, Table, no_rows}
 use Rattle.ps_frame.specs.declared.value.Value.{Value}
-use Rattle.ps_meaning.specs.Cases.{Case, cut_table, end_of, offset_of}
+use Rattle.ps_meaning.specs.Cases.{Case, cut_at, cut_from_end, cut_table, end_of, if_whole, rows_from_end, rows_table}
+use Rattle.ps_meaning.proofs.SchemaLaw.{if_whole-schema}
 use Rattle.ps_meaning.specs.Steps.{slice}
-use Rattle.ps_meaning.specs.Within.{Within}
+use Rattle.ps_meaning.specs.Within.{EndAlike, Within}
 
 -- the first rows of a longer table, cut alike
 abbrev More : List (List Value) → List (List Value) → Type 0
@@ -35,7 +36,7 @@ cut_begins o e xs rest =
     (d.0, d.1 ∙ ap (drop o) t.1)
 
 -- whether a cut has all its rows
-abbrev has_all : ℕ → ℕ → List (List Value) → Bool
+abbrev pub has_all : ℕ → ℕ → List (List Value) → Bool
 has_all o n rows = nat_eq n 0 || nat_le (end_of o n) (length rows)
 
 -- nothing stands between a place and an earlier one
@@ -76,9 +77,47 @@ cut_within o n p l w = record { same_schema = w.same_schema; part = by w.part (h
         let same : cond {A = List Cause} (has_all o n p.rows) [] p.broken ≡ p.broken = ap (λ b. cond {A = List Cause} b [] p.broken) h in
         inr ((λ is_whole. broken (sym same ∙ is_whole)), (m.0, m.1 ∙ ap (λ xs. drop o (take (end_of o n) xs)) e))
 
+-- a table that isn't whole has no row that is known to stand so near the end
+ended-within : (p : Table) (cs : List Cause) (l : Table) (rows : List (List Value)) → cs ≢ [] → p.schema ≡ l.schema → Within (if_whole p.schema cs (rows_table p.schema rows)) l
+ended-within p [] l rows some e = absurd (some refl)
+ended-within p (c ∷ cs) l rows some e = record { same_schema = e; part = inr (some, (l.rows, refl)) }
+
+pub end_within : (back n : ℕ) (p l : Table) → Within p l → Within (cut_from_end back n p) (cut_from_end back n l)
+end_within back n p l w = by (nat_eq n 0) w.part
+  where
+    given : Bool → Table → Table
+    given b t = if b then no_rows t.schema [] else if_whole t.schema t.broken (rows_table t.schema (rows_from_end back n t.rows))
+
+    given-schema : (t : Table) → (given false t).schema ≡ t.schema
+    given-schema t = if_whole-schema t.schema t.broken _ refl
+
+    by : (b : Bool) → (p ≡ l) ⊎ (¬ IsWhole p) × ((rest : List (List Value)) × (p.rows ++ rest ≡ l.rows)) → Within (given b p) (given b l)
+    by b (inl e) = record { same_schema = ap (λ t. (given b t).schema) e; part = inl (ap (given b) e) }
+    by true (inr q) = record { same_schema = w.same_schema; part = inl (ap (λ s. no_rows s []) w.same_schema) }
+    by false (inr q) = ended-within p p.broken (given false l) (rows_from_end back n p.rows) q.0 (w.same_schema ∙ sym (given-schema l))
+
+pub at_within : (offset : ℤ) (n : ℕ) (p l : Table) → Within p l → Within (cut_at offset n p) (cut_at offset n l)
+at_within (pos offset) n p l w = cut_within offset n p l w
+at_within (negsuc k) n p l w = end_within (k + 1) n p l w
+
 -- the case of a slice
 pub slice_within : (F : Functions) (at : ℕ) (offset : ℤ) (n : ℕ) (p l P : Table) → Within p l → Case F at (slice offset n) (p ∷ []) P → (L : Table) × Case F at (slice offset n) (l ∷ []) L × Within P L
 slice_within F at offset n p l P w (U, inl e, q) =
-    let L = cut_table (offset_of offset) n l in
-    (L, (L, inl refl, refl), subst (λ t. Within t L) (sym (q ∙ e)) (cut_within (offset_of offset) n p l w))
+    let L = cut_at offset n l in
+    (L, (L, inl refl, refl), subst (λ t. Within t L) (sym (q ∙ e)) (at_within offset n p l w))
 slice_within F at offset n p l P w (U, inr lost, q) = absurd (lost.2 refl)
+
+-- tables that end alike
+pub alike_within : (p l : Table) → EndAlike p l → Within p l
+alike_within p l a = record { same_schema = a.same_schema; part = by p.broken refl l.broken refl }
+  where
+    apart : true ≡ false → ⊥
+    apart e = cc
+
+    some : {c : Cause} {cs : List Cause} → c ∷ cs ≡ [] → ⊥
+    some e = cc
+
+    by : (cs : List Cause) → p.broken ≡ cs → (ds : List Cause) → l.broken ≡ ds → (p ≡ l) ⊎ (¬ IsWhole p) × ((rest : List (List Value)) × (p.rows ++ rest ≡ l.rows))
+    by [] e [] f = let both : p.broken ≡ l.broken = e ∙ sym f in inl (λ i. record { schema = a.same_schema i; rows = a.same_rows i; broken = both i })
+    by [] e (d ∷ ds) f = absurd (apart (sym (ap is_empty e) ∙ a.both_whole ∙ ap is_empty f))
+    by (c ∷ cs) e ds f = inr ((λ w. some (sym e ∙ w)), ([], append-nil p.rows ∙ a.same_rows))

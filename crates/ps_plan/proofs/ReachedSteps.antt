@@ -1,5 +1,5 @@
 -- What holds of each reached node's step holds of each step of the tree.
-use Rattle.std.proofs.Common.{ℕ, zero, suc, List, [], ◌∷◌, length, refl, arith}
+use Rattle.std.proofs.Common.{ℕ, zero, suc, List, [], ◌∷◌, length}
 use Rattle.std.specs.Prelude.{Option, Some, None, IfSome, map, slice_get, Contains}
 use Rattle.pu_base.specs.declared.arena.Node.{Node}
 use Rattle.ps_frame.specs.Trees.{tree_at}

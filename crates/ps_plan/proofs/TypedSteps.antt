@@ -113,7 +113,7 @@ named-distinct es s h = by (fields_of es s) refl
     by (Some out) q = distinct-from out (λ n r. h n (subst (λ ns. repeats n ns ≡ true) (names-of_fields es s out q) r))
 
 module _ (F : Functions) where
-  output-distinct : (step : Step) (ss : List Fields) → ((R : Refusal) → ¬ TypingRefused F step ss R) → has_distinct_names (schema_or_empty F step ss) ≡ true
+  pub output-distinct : (step : Step) (ss : List Fields) → ((R : Refusal) → ¬ TypingRefused F step ss R) → has_distinct_names (schema_or_empty F step ss) ≡ true
   output-distinct (scan f ns) ss rules = distinct-from (schema_or_empty F (scan f ns) ss) (λ n r. rules (duplicate n) (inr r))
   output-distinct (project ns) ss rules = distinct-from (schema_or_empty F (project ns) ss) (λ n r. rules (duplicate n) (inr r))
   output-distinct (select es) ss rules = named-distinct es (first_schema ss) (λ n r. rules (duplicate n) (inr r))

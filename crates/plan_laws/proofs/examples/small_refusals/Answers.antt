@@ -1,5 +1,5 @@
 use Rattle.plan_laws.proofs.Doubling.{doubling_refused}
-use Rattle.plan_laws.proofs.RefusedPlans.{circle_refused, column_refused, empty_group_refused, function_refused, keyless_refused, predicate_refused, projection_refused, root_refused, select_refused, sinks_refused, slice_refused, sort_refused, window_refused}
+use Rattle.plan_laws.proofs.RefusedPlans.{circle_refused, column_refused, empty_group_refused, function_refused, keyless_refused, predicate_refused, projection_refused, root_refused, select_refused, sinks_refused, sort_refused, window_refused}
 use Rattle.plan_laws.proofs.examples.small_refusals.Goals as goal
 
 pub returns-clause-unknown_column : goal.returns-clause-unknown_column
@@ -31,9 +31,6 @@ returns-clause-no_group_column c = empty_group_refused
 
 pub returns-clause-name_twice : goal.returns-clause-name_twice
 returns-clause-name_twice c = select_refused
-
-pub returns-clause-negative_offset : goal.returns-clause-negative_offset
-returns-clause-negative_offset c = slice_refused
 
 pub returns-clause-no_column : goal.returns-clause-no_column
 returns-clause-no_column c = projection_refused
