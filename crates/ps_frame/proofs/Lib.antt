@@ -13,3 +13,4 @@ pub mod Gathers
 pub mod Aboves
 pub mod Seams
 pub mod Packing
+pub mod Stacks

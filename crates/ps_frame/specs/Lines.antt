@@ -30,7 +30,6 @@ bound_name bound.Gather = codes "Gather"
 bound_name bound.Rows = codes "Rows"
 
 abbrev pub what_name : What → List ℕ
-what_name what.NegativeOffset = codes "NegativeOffset"
 what_name what.Validation = codes "Validation"
 what_name what.NoColumns = codes "NoColumns"
 what_name what.LiteralAggregate = codes "LiteralAggregate"

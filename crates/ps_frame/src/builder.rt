@@ -68,11 +68,102 @@ impl ColumnBuilder {
         }
     }
 
+    /// Puts a whole number at the end, as `push` does, but faster: where the number was there before
+    /// and few differ, no value is made of it.
+    ///
+    /// It fails with `Kind` where the kind isn't `Int64`, and else only for want of memory; the
+    /// builder then stays as it was.
+    pub fn push_number(&mut self, alloc: Global, number: i64) -> Result<(), FrameError>
+        ensures added { OnOk result (self.new ≡ with_value self.old (Value.Int64 number)) }
+        ensures kind { (result ≡ Err FrameError.Kind) ↔ (self.old.kind ≢ DataType.Int64) }
+        ensures errors { OnErr result (self.old.kind ≡ DataType.Int64 → result ≡ Err FrameError.OutOfMemory) }
+        ensures refused { OnErr result (self.new ≡ self.old) }
+    {
+        if self.packed.dtype() != DataType::Int64 {
+            return Err(FrameError::Kind);
+        }
+        // Not by `?`: the clauses tell want of memory from `Kind`, so it is named here.
+        match self.put_number(alloc, number) {
+            Ok(()) => Ok(()),
+            Err(_) => Err(FrameError::OutOfMemory),
+        }
+    }
+
+    /// Puts a text at the end, as `push` does, but faster: where the text was there before and few
+    /// differ, it isn't copied.
+    ///
+    /// It fails with `Kind` where the kind isn't `String`, and else only for want of memory; the
+    /// builder then stays as it was.
+    pub fn push_text(&mut self, alloc: Global, text: &str) -> Result<(), FrameError>
+        ensures added { OnOk result (self.new ≡ with_value self.old (Value.String text.now)) }
+        ensures kind { (result ≡ Err FrameError.Kind) ↔ (self.old.kind ≢ DataType.String) }
+        ensures errors { OnErr result (self.old.kind ≡ DataType.String → result ≡ Err FrameError.OutOfMemory) }
+        ensures refused { OnErr result (self.new ≡ self.old) }
+    {
+        if self.packed.dtype() != DataType::String {
+            return Err(FrameError::Kind);
+        }
+        // Not by `?`: the clauses tell want of memory from `Kind`, so it is named here.
+        match self.put_text(alloc, text) {
+            Ok(()) => Ok(()),
+            Err(_) => Err(FrameError::OutOfMemory),
+        }
+    }
+
+    fn put_number(&mut self, alloc: Global, number: i64) -> Result<(), FrameError>
+        requires { self.old.kind ≡ DataType.Int64 }
+        ensures added { OnOk result (self.new ≡ with_value self.old (Value.Int64 number)) }
+        ensures refused { OnErr result (self.new ≡ self.old) }
+    {
+        if self.push_known_number(number)? {
+            return Ok(());
+        }
+        self.put(alloc, Value::Int64(number))
+    }
+
+    fn put_text(&mut self, alloc: Global, text: &str) -> Result<(), FrameError>
+        requires { self.old.kind ≡ DataType.String }
+        ensures added { OnOk result (self.new ≡ with_value self.old (Value.String text.now)) }
+        ensures refused { OnErr result (self.new ≡ self.old) }
+    {
+        if self.push_known_text(text)? {
+            return Ok(());
+        }
+        let value = Value::of_text(alloc, text)?;
+        self.put(alloc, value)
+    }
+
+    // Puts a number at the end of the packed ones, where it was before: that is the answer.
+    fn push_known_number(&mut self, number: i64) -> Result<bool, FrameError>
+        ensures taken { IfOk result (λ taken. self.new ≡ (if taken then with_value self.old (Value.Int64 number) else self.old)) }
+        ensures refused { OnErr result (self.new ≡ self.old) }
+    {
+        if !self.rest.is_empty() {
+            return Ok(false);
+        }
+        self.packed.push_known_number(number)
+    }
+
+    // The same of a text.
+    fn push_known_text(&mut self, text: &str) -> Result<bool, FrameError>
+        ensures taken { IfOk result (λ taken. self.new ≡ (if taken then with_value self.old (Value.String text.now) else self.old)) }
+        ensures refused { OnErr result (self.new ≡ self.old) }
+    {
+        if !self.rest.is_empty() {
+            return Ok(false);
+        }
+        self.packed.push_known_text(text)
+    }
+
     fn put(&mut self, alloc: Global, value: Value) -> Result<(), FrameError>
         requires { IsTrue (fits_kind self.old.kind value) }
         ensures added { OnOk result (self.new ≡ with_value self.old value) }
         ensures refused { OnErr result (self.new ≡ self.old) }
     {
+        // Once values stand apart, the next one does too.
+        if !self.rest.is_empty() {
+            return self.push_apart(value);
+        }
         if self.push_packed(alloc, &value)? {
             return Ok(());
         }

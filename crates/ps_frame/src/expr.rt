@@ -56,7 +56,6 @@ pub enum FunctionExpr {
 /// What isn't supported: by structure, and then by kinds that are left out.
 #[derive(Clone, Copy, Debug, PartialEq, Eq)]
 pub enum What {
-    NegativeOffset,
     Validation,
     NoColumns,
     LiteralAggregate,
@@ -98,7 +97,6 @@ impl What {
         ensures { result.now ≡ what_name self }
     {
         match self {
-            What::NegativeOffset => "NegativeOffset",
             What::Validation => "Validation",
             What::NoColumns => "NoColumns",
             What::LiteralAggregate => "LiteralAggregate",

@@ -7,6 +7,7 @@ ghost use Rattle.std.specs.Prelude.{◌≡◌, Err, IfSome, IsTrue, OnErr, Some,
 use crate::error::FrameError;
 use crate::value::Value;
 use std::alloc::Global;
+use std::hash::{FoldHasher, Hasher};
 
 // In how many slots a value is looked for.
 const TRIES: usize = 8;
@@ -41,6 +42,34 @@ impl Guesses {
         for step in 0..TRIES {
             let place = self.guess(first, step)?;
             if stands_at(values, place, value) {
+                return Some(place);
+            }
+        }
+        None
+    }
+
+    /// Where a whole number stands among those values, if it was noted.
+    pub(crate) fn place_of_number(&self, values: &[Value], number: i64) -> Option<u32>
+        ensures { IfSome result (λ place. slice_get values.now place ≡ Some (Value.Int64 number)) }
+    {
+        let first = slot_of(number.cast_unsigned());
+        for step in 0..TRIES {
+            let place = self.guess(first, step)?;
+            if number_stands_at(values, place, number) {
+                return Some(place);
+            }
+        }
+        None
+    }
+
+    /// Where a text stands among those values, if it was noted.
+    pub(crate) fn place_of_text(&self, values: &[Value], text: &str) -> Option<u32>
+        ensures { IfSome result (λ place. slice_get values.now place ≡ Some (Value.String text.now)) }
+    {
+        let first = slot_of(number_of(text));
+        for step in 0..TRIES {
+            let place = self.guess(first, step)?;
+            if text_stands_at(values, place, text) {
                 return Some(place);
             }
         }
@@ -112,22 +141,44 @@ fn stands_at(values: &[Value], place: u32, value: &Value) -> bool
     }
 }
 
-// A number that differs for most values.
+fn number_stands_at(values: &[Value], place: u32, number: i64) -> bool
+    ensures { IsTrue result → slice_get values.now place ≡ Some (Value.Int64 number) }
+{
+    match values.get(place as usize) {
+        Some(found) => found.is_number(number),
+        None => false,
+    }
+}
+
+fn text_stands_at(values: &[Value], place: u32, text: &str) -> bool
+    ensures { IsTrue result → slice_get values.now place ≡ Some (Value.String text.now) }
+{
+    match values.get(place as usize) {
+        Some(found) => found.is_text(text),
+        None => false,
+    }
+}
+
+// The first slot in which a value is looked for.
 fn likely_slot(value: &Value) -> usize {
     let number = match value {
         Value::Null => 0,
         Value::Boolean(b) => u64::from(*b),
         Value::Int64(z) => z.cast_unsigned(),
         Value::IdxSize(n) => u64::from(*n),
-        Value::String(text) => number_of(text.as_bytes()),
+        Value::String(text) => number_of(text.as_str()),
     };
+    slot_of(number)
+}
+
+// The same of the number that is made of a value.
+fn slot_of(number: u64) -> usize {
     (number.wrapping_mul(SPREAD) >> 40) as usize
 }
 
-fn number_of(bytes: &[u8]) -> u64 {
-    let mut number = SPREAD;
-    for byte in bytes {
-        number = (number ^ u64::from(*byte)).wrapping_mul(0x0000_0100_0000_01b3);
-    }
-    number
+// A number that differs for most texts. The hash takes eight bytes at a time.
+fn number_of(text: &str) -> u64 {
+    let mut hasher = FoldHasher::default();
+    hasher.write(text.as_bytes());
+    hasher.finish()
 }

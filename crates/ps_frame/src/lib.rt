@@ -8,6 +8,7 @@ pub mod examples;
 pub mod expr;
 mod fields;
 pub mod frame;
+pub mod frame_builder;
 pub mod functions;
 mod guesses;
 pub mod items;
@@ -20,3 +21,4 @@ pub mod schema;
 #[cfg(test)]
 mod tests;
 pub mod value;
+pub mod view;

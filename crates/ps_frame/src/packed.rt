@@ -21,8 +21,12 @@ const MOST_VALUES: usize = 65_536;
 // So many are few however seldom they repeat.
 pub(crate) const FEW_VALUES: usize = 4096;
 
-// Beyond those, one in so many pushed values was there before.
-const SELDOM: usize = 32;
+// Beyond those, one in so many pushed values was there before: many values lie far apart in memory,
+// so to look one up takes longer than to hold it a second time.
+const SELDOM: usize = 8;
+
+// A text that is held a second time takes memory of its own.
+const SELDOM_TEXT: usize = 32;
 
 // Fewer cells have a value each.
 pub(crate) const FEWEST_CELLS: usize = 1024;
@@ -94,6 +98,40 @@ impl Packed {
         }
     }
 
+    /// Puts a whole number at the end, where it is among the few: that is the answer.
+    ///
+    /// Fails only for want of memory.
+    pub(crate) fn push_known_number(&mut self, number: i64) -> Result<bool, FrameError>
+        ensures taken { IfOk result (λ taken. self.new ≡ (if taken then with_value self.old (Value.Int64 number) else self.old)) }
+        ensures refused { OnErr result (self.new ≡ self.old) }
+        ensures memory { OnErr result (result ≡ Err FrameError.OutOfMemory) }
+    {
+        match self.guesses.place_of_number(self.few.as_slice(), number) {
+            Some(place) => {
+                self.places.push(place)?;
+                Ok(true)
+            }
+            None => Ok(false),
+        }
+    }
+
+    /// Puts a text at the end, where it is among the few: that is the answer.
+    ///
+    /// Fails only for want of memory.
+    pub(crate) fn push_known_text(&mut self, text: &str) -> Result<bool, FrameError>
+        ensures taken { IfOk result (λ taken. self.new ≡ (if taken then with_value self.old (Value.String text.now) else self.old)) }
+        ensures refused { OnErr result (self.new ≡ self.old) }
+        ensures memory { OnErr result (result ≡ Err FrameError.OutOfMemory) }
+    {
+        match self.guesses.place_of_text(self.few.as_slice(), text) {
+            Some(place) => {
+                self.places.push(place)?;
+                Ok(true)
+            }
+            None => Ok(false),
+        }
+    }
+
     // What `push` does with a value that wasn't found.
     fn push_new(&mut self, alloc: Global, value: &Value) -> Result<bool, FrameError>
         requires { IsTrue (fits_kind self.old.kind value.now) }
@@ -115,7 +153,11 @@ impl Packed {
     // Whether there are many values, of which too few stood there before.
     fn seldom_repeat(&self) -> bool {
         let repeats = self.places.len().saturating_sub(self.few.len());
-        self.few.len() >= FEW_VALUES && repeats < self.places.len() / SELDOM
+        let least = match self.dtype {
+            DataType::String => self.places.len() / SELDOM_TEXT,
+            _ => self.places.len() / SELDOM,
+        };
+        self.few.len() >= FEW_VALUES && repeats < least
     }
 
     /// How many values are held.

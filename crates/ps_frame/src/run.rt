@@ -1,6 +1,7 @@
 // Items that lie one after another.
-ghost use Rattle.std.specs.Prelude.{◌≡◌, ◌↔◌, [], take, drop, length, slice_get, ◌<◌, IsTrue, IfOk, Some};
+ghost use Rattle.std.specs.Prelude.{◌≡◌, ◌↔◌, ◌++◌, [], take, drop, length, slice_get, ◌<◌, ◌≤◌, IsTrue, IfOk, IfSome, Some};
 
+use crate::value::Value;
 use std::alloc::{AllocError, Global};
 use std::marker::Model;
 use std::sync::Arc;
@@ -100,4 +101,42 @@ impl<T: Drop> Run<T> {
             len: length.min(rest),
         })
     }
+}
+
+impl Run<Value> {
+    /// This run and then another one, where the values right behind this one are the same: so slices
+    /// that touch become one run again. No value is copied.
+    ///
+    /// Fails only for want of memory.
+    pub(crate) fn grown_over(&self, next: &Run<Value>) -> Result<Option<Run<Value>>, AllocError>
+        ensures joined { IfOk result (λ o. IfSome o (λ run. run ≡ self.now ++ next.now)) }
+    {
+        let behind = &self.shared[self.start + self.len..];
+        if !begin_with(behind, next.as_slice()) {
+            return Ok(None);
+        }
+        let shared = self.shared.clone()?;
+        Ok(Some(Run {
+            shared,
+            start: self.start,
+            len: self.len + next.len(),
+        }))
+    }
+}
+
+// Whether the first of these values are the others. It ends at the first that isn't, so a look at
+// slices that don't touch is short.
+fn begin_with(values: &[Value], others: &[Value]) -> bool
+    ensures long { IsTrue result → length others.now ≤ length values.now }
+    ensures same { IsTrue result → take (length others.now) values.now ≡ others.now }
+{
+    if values.len() < others.len() {
+        return false;
+    }
+    for i in 0..others.len() {
+        if !values[i].same(&others[i]) {
+            return false;
+        }
+    }
+    true
 }

@@ -3,6 +3,7 @@ ghost use Rattle.std.specs.Prelude.{◌≡◌, ◌++◌, ◌+◌, ◌<◌, take,
 ghost use Rattle.ps_frame.specs.EndToEnd.{end_to_end};
 
 use crate::run::Run;
+use crate::value::Value;
 use std::alloc::{AllocError, Global};
 use std::marker::Model;
 
@@ -155,6 +156,28 @@ impl<T: Drop> Runs<T> {
         rest.push(other.first.share()?)?;
         push_shared(&mut rest, other.rest.as_slice())?;
         Ok(Runs { first, rest, len })
+    }
+}
+
+impl Runs<Value> {
+    /// The one run that these and others make, where both are one run and these touch; no value is
+    /// copied.
+    ///
+    /// Fails only for want of memory.
+    pub(crate) fn grown_over(
+        &self,
+        alloc: Global,
+        other: &Runs<Value>,
+    ) -> Result<Option<Runs<Value>>, AllocError>
+        ensures joined { IfOk result (λ o. IfSome o (λ runs. runs ≡ self.now ++ other.now)) }
+    {
+        let (Some(run), Some(next)) = (self.alone(), other.alone()) else {
+            return Ok(None);
+        };
+        match run.grown_over(next)? {
+            Some(run) => Ok(Some(Runs::of(alloc, run))),
+            None => Ok(None),
+        }
     }
 }
 

@@ -61,6 +61,32 @@ fn many_values_that_repeat_are_held_once(rt: HostRuntime) -> Result<(), Fail> {
     Ok(())
 }
 
+// The i-th of numbers that differ, but for one in sixteen.
+fn seldom_repeated(i: u32) -> u32 {
+    if i % 16 == 15 { 0 } else { i }
+}
+
+#[test]
+fn many_numbers_that_seldom_repeat_have_a_value_for_each_cell(rt: HostRuntime) -> Result<(), Fail> {
+    let mut builder = ColumnBuilder::new(rt.alloc(), DataType::Int64);
+    for i in 0..6000 {
+        builder.push_number(rt.alloc(), i64::from(seldom_repeated(i)))?;
+    }
+    assert!(rt; builder.finish(rt.alloc())?.is_wide());
+    Ok(())
+}
+
+#[test]
+fn many_texts_that_seldom_repeat_are_held_once(rt: HostRuntime) -> Result<(), Fail> {
+    let mut builder = ColumnBuilder::new(rt.alloc(), DataType::String);
+    for i in 0..6000 {
+        let word = format!(in rt.alloc(); "{}", seldom_repeated(i))?;
+        builder.push_text(rt.alloc(), word.as_str())?;
+    }
+    assert!(rt; !builder.finish(rt.alloc())?.is_wide());
+    Ok(())
+}
+
 #[test]
 fn long_columns_share_their_runs(rt: HostRuntime) -> Result<(), Fail> {
     let both = two_runs(rt.alloc())?;
@@ -84,6 +110,42 @@ fn a_slice_within_a_run_has_that_run_alone(rt: HostRuntime) -> Result<(), Fail> 
     assert_eq!(rt; end.count_runs(), 1);
     assert_eq!(rt; end.len(), 1000);
     assert!(rt; has_index(&end, 999, Some(75_999)));
+    Ok(())
+}
+
+#[test]
+fn slices_that_touch_become_one_run_again(rt: HostRuntime) -> Result<(), Fail> {
+    let whole = numbers(rt.alloc(), 0, 12_000, 12_000)?;
+    let upper = whole.slice(rt.alloc(), 1000, 5000)?;
+    let lower = whole.slice(rt.alloc(), 6000, 5000)?;
+    let both = above(rt.alloc(), &upper, &lower)?;
+    assert_eq!(rt; both.count_runs(), 1);
+    assert_eq!(rt; both.len(), 10_000);
+    assert!(rt; has_index(&both, 0, Some(1000)) && has_index(&both, 9999, Some(10_999)));
+    let turned = above(rt.alloc(), &lower, &upper)?;
+    assert_eq!(rt; turned.count_runs(), 2);
+    assert!(rt; has_index(&turned, 4999, Some(10_999)) && has_index(&turned, 5000, Some(1000)));
+    Ok(())
+}
+
+// A long column, put together again from twenty slices.
+fn cut_and_built(alloc: Global, whole: &Column) -> Result<Column, FrameError> {
+    let each = whole.len() / 20;
+    let mut builder = ColumnBuilder::new(alloc, whole.dtype());
+    for i in 0..20usize {
+        let part = whole.slice(alloc, i.saturating_mul(each), each)?;
+        builder = builder.with_column(alloc, &part)?;
+    }
+    builder.finish(alloc)
+}
+
+#[test]
+fn a_builder_makes_one_run_of_slices_that_touch(rt: HostRuntime) -> Result<(), Fail> {
+    let whole = numbers(rt.alloc(), 0, 100_000, 100_000)?;
+    let again = cut_and_built(rt.alloc(), &whole)?;
+    assert_eq!(rt; again.count_runs(), 1);
+    assert_eq!(rt; again.len(), 100_000);
+    assert!(rt; has_index(&again, 0, Some(0)) && has_index(&again, 99_999, Some(99_999)));
     Ok(())
 }
 

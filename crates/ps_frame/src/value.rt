@@ -103,6 +103,40 @@ impl Value {
         }
     }
 
+    /// Whether this is that whole number.
+    pub(crate) fn is_number(&self, number: i64) -> bool
+        ensures { IsTrue result ↔ (self.now ≡ Value.Int64 number) }
+    {
+        match self {
+            Value::Int64(z) => *z == number,
+            _ => false,
+        }
+    }
+
+    /// Whether this is that text.
+    pub(crate) fn is_text(&self, text: &str) -> bool
+        ensures { IsTrue result ↔ (self.now ≡ Value.String text.now) }
+    {
+        match self {
+            Value::String(name) => name.eq_str(text),
+            _ => false,
+        }
+    }
+
+    /// The value of a text.
+    ///
+    /// Fails only for want of memory.
+    pub(crate) fn of_text(alloc: Global, text: &str) -> Result<Value, FrameError>
+        ensures made { IfOk result (λ v. v ≡ Value.String text.now) }
+        ensures memory { OnErr result (result ≡ Err FrameError.OutOfMemory) }
+    {
+        // A text's own error doesn't convert by `?`; it is want of memory alone.
+        match PlSmallStr::from_str(alloc, text) {
+            Ok(copy) => Ok(Value::String(copy)),
+            Err(_) => Err(FrameError::OutOfMemory),
+        }
+    }
+
     /// An equal value.
     ///
     /// Fails only for want of memory.
@@ -115,11 +149,7 @@ impl Value {
             Value::Boolean(b) => Ok(Value::Boolean(*b)),
             Value::Int64(z) => Ok(Value::Int64(*z)),
             Value::IdxSize(n) => Ok(Value::IdxSize(*n)),
-            // A text's own error doesn't convert by `?`; it is want of memory alone.
-            Value::String(s) => match s.try_clone(alloc) {
-                Ok(copy) => Ok(Value::String(copy)),
-                Err(_) => Err(FrameError::OutOfMemory),
-            },
+            Value::String(s) => Value::of_text(alloc, s.as_str()),
         }
     }
 }

@@ -6,6 +6,8 @@ mod columns;
 #[cfg(test)]
 mod made;
 #[cfg(test)]
+mod pushes;
+#[cfg(test)]
 mod refusals;
 #[cfg(test)]
 mod schemas;
@@ -13,3 +15,5 @@ mod schemas;
 mod sizes;
 #[cfg(test)]
 mod tables;
+#[cfg(test)]
+mod views;

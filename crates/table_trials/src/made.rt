@@ -122,3 +122,16 @@ pub fn has_text(column: &Column, i: usize, word: &str) -> bool {
         _ => false,
     }
 }
+
+/// Whether a column shows these values.
+pub fn same_cells(column: &Column, values: &[Value]) -> bool {
+    if column.len() != values.len() {
+        return false;
+    }
+    for i in 0..values.len() {
+        if !column.value(i).same(&values[i]) {
+            return false;
+        }
+    }
+    true
+}

@@ -1,8 +1,9 @@
 // Tables past each size from which values are held in another way.
-use crate::made::{above, counted_names, has_index, numbered, schema_of, text};
+use crate::made::{above, counted_names, has_index, numbered, schema_of, table, text};
 use ps_frame::column::Column;
 use ps_frame::error::FrameError;
 use ps_frame::frame::DataFrame;
+use ps_frame::frame_builder::FrameBuilder;
 use ps_frame::schema::Schema;
 use ps_frame::value::{DataType, Value};
 use std::alloc::Global;
@@ -78,6 +79,19 @@ fn sixteen_and_twenty_columns_stand_side_by_side(rt: HostRuntime) -> Result<(), 
     Ok(())
 }
 
+// Whether there are so many rows, which the first column counts.
+fn is_counted(df: &DataFrame, rows: u32) -> bool {
+    if df.height() != rows as usize {
+        return false;
+    }
+    for i in 0..rows {
+        if !first_column_has(df, i) {
+            return false;
+        }
+    }
+    true
+}
+
 // That many tables below each other, of so many different numbers each.
 fn stacked(alloc: Global, count: u32, each: u32) -> Result<DataFrame, FrameError> {
     let mut all = numbered_table(alloc, 0, 0)?;
@@ -88,21 +102,43 @@ fn stacked(alloc: Global, count: u32, each: u32) -> Result<DataFrame, FrameError
     Ok(all)
 }
 
+// The same in one pass.
+fn stacked_at_once(alloc: Global, count: u32, each: u32) -> Result<DataFrame, FrameError> {
+    let none = numbered_table(alloc, 0, 0)?;
+    let mut builder = FrameBuilder::new(alloc, none.schema())?;
+    for i in 0..count {
+        let below = numbered_table(alloc, i.saturating_mul(each), each)?;
+        builder = builder.with_table(alloc, &below)?;
+    }
+    builder.finish(alloc)
+}
+
 #[test]
 fn seventeen_long_tables_are_stacked(rt: HostRuntime) -> Result<(), Fail> {
     let each = FEW_VALUES + 1;
     let all = stacked(rt.alloc(), 17, each)?;
-    assert_eq!(rt; all.height(), 69_649);
-    for i in [
-        0,
-        each - 1,
-        each,
-        15 * each,
-        16 * each - 1,
-        16 * each,
-        17 * each - 1,
-    ] {
-        assert!(rt; first_column_has(&all, i), "{i}");
+    assert!(rt; is_counted(&all, 69_649));
+    let all = stacked_at_once(rt.alloc(), 17, each)?;
+    assert!(rt; is_counted(&all, 69_649));
+    Ok(())
+}
+
+#[test]
+fn many_tables_are_stacked_in_one_pass(rt: HostRuntime) -> Result<(), Fail> {
+    for (count, each) in [(0, 5), (1, 5), (3000, 1), (70, 1000), (17, 4096)] {
+        let all = stacked_at_once(rt.alloc(), count, each)?;
+        assert!(rt;
+            is_counted(&all, count.saturating_mul(each)),
+            "{count} of {each}"
+        );
     }
+    Ok(())
+}
+
+#[test]
+fn a_builder_of_tables_refuses_another_schema(rt: HostRuntime) -> Result<(), Fail> {
+    let builder = FrameBuilder::new(rt.alloc(), &schema_of(rt.alloc(), "a")?)?;
+    let refused = builder.with_table(rt.alloc(), &table(rt.alloc(), "b", 2)?);
+    assert!(rt; matches!(refused, Err(FrameError::Kind)));
     Ok(())
 }

@@ -1,6 +1,5 @@
-use Rattle.std.proofs.Common.{◌≡◌, ◌<◌, ◌++◌, ◌∙◌, [], length, ap, sym, arith, rules}
+use Rattle.std.proofs.Common.{◌≡◌, ◌<◌, [], length, arith, rules}
 use Rattle.ps_frame.proofs.Seams.{end_to_end-taken}
-use Rattle.ps_frame.specs.EndToEnd.{end_to_end}
 use Rattle.ps_frame.proofs.runs.Runs.of_parts.Goals as goal
 
 pub returns : goal.returns

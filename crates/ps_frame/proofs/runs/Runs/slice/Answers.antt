@@ -1,4 +1,4 @@
-use Rattle.std.proofs.Common.{◌++◌, sym, ap, ◌∙◌, take, drop}
+use Rattle.std.proofs.Common.{sym}
 use Rattle.ps_frame.proofs.Seams.{part-seam}
 use Rattle.ps_frame.specs.EndToEnd.{end_to_end}
 use Rattle.ps_frame.proofs.runs.Runs.slice.Goals as goal
