@@ -3,6 +3,7 @@ use Rattle.std.proofs.Common.{◌≡◌, ℕ, List, [], ◌∷◌, ◌++◌, len
 use Rattle.std.specs.Prelude.{Contains, IfErr, OnErr, Result, Ok, Err, Some, unwrap_or}
 use Rattle.std.specs.List.{AllByRecursion}
 use Rattle.std.proofs.lemmas.List.{map-append}
+use Rattle.std.proofs.lemmas.List.Elements.{Contains-append_left}
 use Rattle.pu_base.specs.declared.arena.Node.{Node}
 use Rattle.ps_frame.specs.Causes.{Cause}
 use Rattle.ps_frame.specs.Frames.{kinds_of}
@@ -15,7 +16,7 @@ use Rattle.ps_frame.specs.Zip.{Zipped}
 use Rattle.ps_frame.specs.declared.refusal.PolarsError.{PolarsError}
 use Rattle.ps_frame.specs.declared.refusal.PolarsError.TheVariants as error
 use Rattle.ps_frame.specs.declared.value.Value.{Value}
-use Rattle.ps_meaning.specs.Cases.{GivesBeforeCut, cut_by, if_whole, keyed, out_schema}
+use Rattle.ps_meaning.specs.Cases.{GivesBeforeCut, cut_by, if_whole, keyed, out_schema, with_group_causes}
 use Rattle.ps_meaning.specs.Groups.{Group, groups, groups_table}
 use Rattle.ps_meaning.specs.Meaning.{HasLargeColumn}
 use Rattle.ps_meaning.specs.Nodes.{GivesFrame, MayFault}
@@ -77,7 +78,7 @@ module _ (f : Node → Tree) (at : ℕ) (keys aggs : List ExprIR) (t : Frame) wh
       zip-is = ap (λ es. keyed at es (whole t)) (exprs-of-named f keys)
 
       abbrev given : Table
-      given = if_whole S z.broken (groups_table S gs)
+      given = if_whole S (with_group_causes z.broken gs) (groups_table S gs)
 
       gives-given : GivesBeforeCut F at step (whole t ∷ []) given
       gives-given = inl (gs, same-order maintained gs, refl)
@@ -95,18 +96,18 @@ module _ (f : Node → Tree) (at : ℕ) (keys aggs : List ExprIR) (t : Frame) wh
             let none : all_causes gs ≡ [] = ap all_causes groups-are ∙ clean in
             let cells : g.rows ≡ (groups_table S gs).rows = rows ∙ ap (map (λ (x : Group). x.cells)) (sym groups-are) ∙ sym (clean-groups gs none) in
             let table : whole g ≡ groups_table S gs = λ i. record { schema = (named ∙ sym schema-is) i; rows = cells i; broken = sym none i } in
-            (whole g, inl (gs, same-order maintained gs, table ∙ ap (λ b. if_whole S b (groups_table S gs)) (sym unbroken)), part)
+            (whole g, inl (gs, same-order maintained gs, table ∙ ap (λ b. if_whole S (with_group_causes b gs) (groups_table S gs)) (sym unbroken)), part)
 
         pub groups-fault : (e : PolarsError) → IsErrorAt at (IsFaultOfGroups at (table_groups at agg_exprs m cs)) e → MayFault F at step (t ∷ []) e
         groups-fault e (inl memory) = inl memory
         groups-fault e (inr (d, is_error, found)) =
             let c : Cause = record { fault = d; node = at } in
             let in_groups : Contains (all_causes gs) c = subst (λ xs. Contains (all_causes xs) c) (sym groups-are) found in
-            inr (d, is_error, inl (given, inr gives-given, subst (λ b. Contains (if_whole S b (groups_table S gs)).broken c) (sym unbroken) in_groups))
+            inr (d, is_error, inl (given, inr gives-given, subst (λ b. Contains (if_whole S (with_group_causes b gs) (groups_table S gs)).broken c) (sym unbroken) in_groups))
 
-      still-broken : (cs : List Cause) (T : Table) (c : Cause) → Contains cs c → Contains (if_whole S cs T).broken c
+      still-broken : (cs : List Cause) (T : Table) (c : Cause) → Contains cs c → Contains (if_whole S (with_group_causes cs gs) T).broken c
       still-broken [] T c (k, within, is) = absurd (omega arith)
-      still-broken (x ∷ cs) T c h = h
+      still-broken (x ∷ cs) T c h = Contains-append_left (x ∷ cs) (all_causes gs) c h
 
       pub zip-fault : (e : PolarsError) → IsZipError at key_exprs (whole t) own_zip e → MayFault F at step (t ∷ []) e
       zip-fault e (inl memory) = inl memory

@@ -27,7 +27,7 @@ abbrev pub table : Fields → List (List Value) → List Cause → Table
 table s rows broken = record { schema = s; rows = rows; broken = broken }
 
 -- an error of the zip is an error of the step, if its causes break the step, and its large columns are the step's
-pub may-fault : (F : Functions) (at : ℕ) (step : Step) (fs : List Frame) (ts : List Tree) (t : Table) (z : Zipped) → ((c : Cause) → Contains z.broken c → IsCaseBrokenBy F at step (map whole fs) c) → (HasLargeColumn at ts t → IsLargeStep at step (map whole fs))
+pub may-fault : (F : Functions) (at : ℕ) (step : Step) (fs : List Frame) (ts : List Tree) (t : Table) (z : Zipped) → ((c : Cause) → Contains z.broken c → IsCaseBrokenBy F at step (map whole fs) c) → (HasLargeColumn at ts t → IsLargeStep F at step (map whole fs))
     → (e : PolarsError) → IsZipError at ts t z e → MayFault F at step fs e
 may-fault F at step fs ts t z broken large e (inl m) = inl m
 may-fault F at step fs ts t z broken large e (inr (d, is, inl c)) = inr (d, is, inl (broken (record { fault = d; node = at }) c))

@@ -1,11 +1,15 @@
 -- The slice of a whole table.
-use Rattle.std.proofs.Common.{◌≡◌, ℕ, ◌+◌, ◌-◌, ◌≤◌, List, [], Bool, true, false, take, drop, refl, sym, ◌∙◌, ap, arith}
-use Rattle.std.specs.Prelude.{if◌then◌else◌, nat_eq, nat_le, ◌||◌, length}
-use Rattle.std.proofs.lemmas.List.{drop-take}
+use Rattle.std.proofs.Common.{◌≡◌, ℕ, suc, ℤ, pos, negsuc, ◌+◌, ◌-◌, ◌^◌, ◌<◌, ◌≤◌, ◌⊎◌, List, [], Bool, true, false, min, take, drop, length, refl, sym, ◌∙◌, ap, arith, inl, inr}
+use Rattle.std.specs.Prelude.{if◌then◌else◌, nat_eq, nat_le, ◌||◌, ◌<ℤ◌, ◌≤ℤ◌, unsigned_abs}
+use Rattle.std.proofs.lemmas.Bool.{cases_lt, eqb-true}
+use Rattle.std.proofs.lemmas.Int.{ints}
+use Rattle.std.proofs.lemmas.List.{length-drop, take_all}
+use Rattle.ps_frame.proofs.Lists.{drop-take_sub}
+use Rattle.ps_frame.specs.Aggregates.{max_rows}
 use Rattle.ps_frame.specs.Causes.{Cause}
-use Rattle.ps_frame.specs.Tables.{Fields, Frame, Table, whole}
+use Rattle.ps_frame.specs.Tables.{Fields, Frame, Table, no_rows, whole}
 use Rattle.ps_frame.specs.declared.value.Value.{Value}
-use Rattle.ps_meaning.specs.Cases.{cut_table, end_of}
+use Rattle.ps_meaning.specs.Cases.{cut_at, cut_from_end, cut_table, end_of, rows_from_end, rows_table}
 
 abbrev pub table : Fields → List (List Value) → List Cause → Table
 table s rows broken = record { schema = s; rows = rows; broken = broken }
@@ -15,10 +19,59 @@ none-after : (b : Bool) → (if b then [] else []) ≡ let cs : List Cause = [] 
 none-after true = refl
 none-after false = refl
 
--- a part up to the end of the slice is the slice
-pub part-is-cut : (t p : Frame) (offset n end : ℕ) → end ≡ end_of offset n → offset ≤ end → p.schema ≡ t.schema → p.rows ≡ take (end - offset) (drop offset t.rows) → whole p ≡ cut_table offset n (whole t)
-part-is-cut t p offset n end is below schema rows =
-    let all : offset + (end - offset) ≡ end = omega arith in
-    let up_to : take (end - offset) (drop offset t.rows) ≡ drop offset (take (end_of offset n) t.rows) =
-    sym (drop-take offset (end - offset) t.rows) ∙ ap (λ m. drop offset (take m t.rows)) (all ∙ is) in
-    λ i. table (schema i) ((rows ∙ up_to) i) (sym (none-after (nat_eq n 0 || nat_le (end_of offset n) (length t.rows))) i)
+-- all rows, however many more are asked for
+all-rows : (n m : ℕ) (rows : List (List Value)) → length rows ≤ n → length rows ≤ m → take n rows ≡ take m rows
+all-rows n m rows h k = take_all n rows h ∙ sym (take_all m rows k)
+
+-- so many rows from a place on are those before their end, also where the end is clipped behind the last row
+rows-before : (o n m : ℕ) (rows : List (List Value)) → length rows ≤ m → take n (drop o rows) ≡ drop o (take (min (o + n) m) rows)
+rows-before o n m rows few = by (cases_lt m (o + n)) ∙ sym (drop-take_sub o (min (o + n) m) rows)
+  where
+    left : length (drop o rows) ≡ length rows - o
+    left = length-drop o rows
+
+    by : (m < o + n) ⊎ (o + n ≤ m) → take n (drop o rows) ≡ take (min (o + n) m - o) (drop o rows)
+    by (inl long) = all-rows n (min (o + n) m - o) (drop o rows) (omega (arith, left)) (omega (arith, left))
+    by (inr short) = let is : n ≡ min (o + n) m - o = omega arith in ap (λ k. take k (drop o rows)) is
+
+cut-from-start : (t p : Frame) (o n : ℕ) → length t.rows ≤ max_rows → p.schema ≡ t.schema → p.rows ≡ take n (drop o t.rows) → whole p ≡ cut_table o n (whole t)
+cut-from-start t p o n few schema rows =
+    let below : length t.rows ≤ 2 ^ 64 - 1 = omega arith in
+    let same : p.rows ≡ drop o (take (end_of o n) t.rows) = rows ∙ rows-before o n (2 ^ 64 - 1) t.rows below in
+    λ i. table (schema i) (same i) (sym (none-after (nat_eq n 0 || nat_le (end_of o n) (length t.rows))) i)
+
+-- rows between two places that are counted from the end
+rows-from-end : (back n start count : ℕ) (rows : List (List Value)) → start ≡ length rows - back → start + count ≡ length rows + n - back → take count (drop start rows) ≡ rows_from_end back n rows
+rows-from-end back n start count rows from to =
+    let many : count ≡ length rows + n - back - start = omega arith in
+    ap (λ k. take k (drop start rows)) many ∙ sym (drop-take_sub start (length rows + n - back) rows) ∙ ap (λ k. drop k (take (length rows + n - back) rows)) from
+
+no-rows-from-end : (back n : ℕ) (rows : List (List Value)) → n ≡ 0 → rows_from_end back n rows ≡ []
+no-rows-from-end back n rows none =
+    let nothing : length rows + n - back - (length rows - back) ≡ 0 = omega arith in
+    drop-take_sub (length rows - back) (length rows + n - back) rows ∙ ap (λ k. take k (drop (length rows - back) rows)) nothing
+
+cut-from-end : (t p : Frame) (back n : ℕ) → p.schema ≡ t.schema → p.rows ≡ rows_from_end back n t.rows → whole p ≡ cut_from_end back n (whole t)
+cut-from-end t p back n schema rows = by (nat_eq n 0) refl
+  where
+    by : (b : Bool) → nat_eq n 0 ≡ b → whole p ≡ (if b then no_rows t.schema [] else rows_table t.schema (rows_from_end back n t.rows))
+    by true e = let none : p.rows ≡ [] = rows ∙ no-rows-from-end back n t.rows (eqb-true n 0 e) in λ i. table (schema i) (none i) []
+    by false e = λ i. table (schema i) (rows i) []
+
+-- the rows between the bounds of a slice are the slice
+pub part-is-cut : (t p : Frame) (offset : ℤ) (n start count height : ℕ) → height ≡ length t.rows → height ≤ max_rows → (pos 0 ≤ℤ offset → (pos start ≡ offset) × (count ≡ n))
+    → (offset <ℤ pos 0 → (start ≡ height - unsigned_abs offset) × (start + count ≡ height + n - unsigned_abs offset)) → p.schema ≡ t.schema → p.rows ≡ take count (drop start t.rows)
+    → whole p ≡ cut_at offset n (whole t)
+part-is-cut t p (pos o) n start count height all few front back schema rows =
+    let bounds = front (omega (arith, ints)) in
+    let starts : pos start ≡ pos o = bounds.0 in
+    let from : start ≡ o = cc in
+    let some : length t.rows ≤ max_rows = omega arith in
+    cut-from-start t p o n some schema (rows ∙ ap (λ k. take k (drop start t.rows)) bounds.1 ∙ ap (λ k. take n (drop k t.rows)) from)
+part-is-cut t p (negsuc k) n start count height all few front back schema rows =
+    let bounds = back (omega (arith, ints)) in
+    let starts : start ≡ height - suc k = bounds.0 in
+    let ends : start + count ≡ height + n - suc k = bounds.1 in
+    let from : start ≡ length t.rows - (k + 1) = omega arith in
+    let to : start + count ≡ length t.rows + n - (k + 1) = omega arith in
+    cut-from-end t p (k + 1) n schema (rows ∙ rows-from-end (k + 1) n start count t.rows from to)

@@ -1,9 +1,9 @@
 -- Fields that are added one after another.
-use Rattle.std.proofs.Common.{◌≡◌, ℕ, zero, suc, ◌+◌, ◌<◌, ◌≤◌, List, [], ◌∷◌, ◌++◌, length, get_or, drop, Bool, true, false, Ok, Err, Result, refl, sym, subst, ◌∙◌, ap, append_assoc, add-one, drop-cons, arith, inl, inr}
-use Rattle.std.specs.Prelude.{not, ◌&&◌, ◌||◌, ◌⊎◌, ◌↔◌, IsTrue, IsFalse, IfErr, IsErrAnd, OnErr, Option, Some, None, option_map}
+use Rattle.std.proofs.Common.{◌≡◌, ℕ, suc, ◌+◌, ◌<◌, ◌≤◌, List, [], ◌∷◌, ◌++◌, length, get_or, drop, Bool, true, false, Ok, Err, Result, refl, sym, subst, ◌∙◌, ap, append_assoc, add-one, drop-cons, arith}
+use Rattle.std.specs.Prelude.{not, ◌&&◌, ◌||◌, ◌↔◌, IsTrue, IsFalse, IfErr, IsErrAnd, OnErr, Option, Some, None, option_map}
 use Rattle.std.specs.List.{AllByRecursion, list_any}
 use Rattle.std.specs.Str.{bytes_eq}
-use Rattle.std.proofs.lemmas.Bool.{and_from, cases_Bool, or_left, or_right}
+use Rattle.std.proofs.lemmas.Bool.{or_left, or_right}
 use Rattle.std.proofs.Math.Seq.{drop-length}
 use Rattle.std.proofs.lemmas.List.{append-nil}
 use Rattle.std.proofs.lemmas.Slice.Eq.{bytes_eq-Decides}
@@ -22,7 +22,7 @@ use Rattle.ps_frame.specs.declared.value.DataType.{DataType}
 use Rattle.ps_meaning.specs.PlanTrees.{all_sizes}
 use Rattle.ps_meaning.specs.StepRefusals.{repeats}
 use Rattle.ps_meaning.specs.Schemas.{both as both_of, expr_names, fields_of, is_among, names_of}
-use Rattle.ps_meaning.specs.Steps.{Name, Named, exprs_of, name_in, named_trees}
+use Rattle.ps_meaning.specs.Steps.{Name, exprs_of, name_in, named_trees}
 use Rattle.ps_meaning.specs.declared.options.ExprIR.{ExprIR}
 use Rattle.ps_typing.proofs.Parts.{AreAmong, among-left, among-right, among-then, carried}
 use Rattle.ps_typing.specs.Refused.{IsErrorAmong}

@@ -1,6 +1,6 @@
 -- The names of keys that are columns, gathered one after another.
-use Rattle.std.proofs.Common.{◌≡◌, ℕ, suc, ◌+◌, ◌<◌, List, [], ◌∷◌, length, get_or, drop, Bool, true, false, cond, refl, sym, subst, ◌∙◌, ap, add-one, drop-cons}
-use Rattle.std.specs.Prelude.{◌||◌, Option, Some, None}
+use Rattle.std.proofs.Common.{◌≡◌, ℕ, suc, ◌+◌, ◌<◌, List, ◌∷◌, length, get_or, drop, Bool, true, false, cond, refl, sym, subst, ◌∙◌, ap, add-one, drop-cons}
+use Rattle.std.specs.Prelude.{◌||◌}
 use Rattle.std.specs.List.{AllByRecursion}
 use Rattle.std.specs.Str.{bytes_eq}
 use Rattle.std.specs.Cmp.{nat_eq_equiv}

@@ -1,8 +1,7 @@
 -- Cache ids that are noted with their inputs, one node after another.
-use Rattle.std.proofs.Common.{◌≡◌, ◌≢◌, ℕ, suc, ◌+◌, List, [], ◌∷◌, ◌++◌, length, slice_get, take, drop, get_or, refl, sym, subst, ◌∙◌, ap, inl, inr, Option, Some, None}
+use Rattle.std.proofs.Common.{◌≡◌, ◌≢◌, ℕ, ◌+◌, List, length, slice_get, take, refl, sym, subst, ◌∙◌, ap, inl, inr, Option, Some, None}
 use Rattle.std.specs.Prelude.{Contains, ◌⊎◌, ◌↔◌, IsSomeAnd, MatchOption}
 use Rattle.std.proofs.Math.Seq.{take-length}
-use Rattle.std.proofs.lemmas.Option.{slice_get-get_or}
 use Rattle.ps_plan.specs.Refusals.{IsCacheOver}
 use Rattle.ps_plan.specs.declared.ir.IR.{IR}
 use Rattle.ps_survey.proofs.Lists.{from-at, same-or-not}

@@ -1,6 +1,6 @@
 -- Nodes that are checked one after another, each after its inputs.
 use Rattle.std.proofs.Common.{◌≡◌, ℕ, suc, ◌+◌, ◌*◌, ◌<◌, ◌≤◌, ◌≢◌, List, [], ◌∷◌, ◌++◌, length, slice_get, set, take, drop, refl, sym, subst, ◌∙◌, ap, add-one, arith, inl, inr}
-use Rattle.std.specs.Prelude.{Contains, ◌⊎◌, IsSomeAnd, Option, Some, None, map, replicate, sum_by, unwrap_or}
+use Rattle.std.specs.Prelude.{Contains, ◌⊎◌, Option, Some, None, replicate, sum_by, unwrap_or}
 use Rattle.std.specs.List.{AllByRecursion}
 use Rattle.std.proofs.Math.ListN.{length-set}
 use Rattle.std.proofs.lemmas.List.{length-replicate}
@@ -15,12 +15,11 @@ use Rattle.ps_frame.specs.Trees.{IsComplete, tree_at}
 use Rattle.ps_frame.specs.declared.refusal.PolarsError.{PolarsError}
 use Rattle.ps_frame.specs.declared.refusal.PolarsError.TheVariants as error
 use Rattle.ps_frame.specs.declared.refusal.Why.{Why}
-use Rattle.ps_meaning.specs.Errors.{refusal_error}
-use Rattle.ps_plan.specs.Graph.{Reached, here, inputs_at, named_by}
+use Rattle.ps_plan.specs.Graph.{Reached, here, named_by}
 use Rattle.ps_meaning.specs.PlanTrees.{PlanTree, PlanTrees, all_sizes, node}
 use Rattle.ps_plan.specs.Plans.{Plan, plan_at, plan_trees_of, tree_of}
 use Rattle.ps_meaning.specs.StepRefusals.{NamesMissingFunction, Refusal, TypingRefused, column_not_found, duplicate, schema_mismatch, unsupported}
-use Rattle.ps_plan.specs.Refusals.{AreClean, GraphRefused, IsClean, IsRefused, IsValid, TreeRefused}
+use Rattle.ps_plan.specs.Refusals.{AreClean, IsClean, IsRefused, IsValid, TreeRefused}
 use Rattle.ps_meaning.specs.Schemas.{output_schema, tree_schema, tree_schemas}
 use Rattle.ps_meaning.specs.Steps.{Step, step_exprs}
 use Rattle.ps_plan.specs.Entries.{entry_inputs, entry_step}
@@ -36,9 +35,9 @@ use Rattle.ps_walks.specs.Fit.{HasSchemas, plan_schemas}
 use Rattle.ps_validate.proofs.LeftOuts.{first-or-later, no-item}
 use Rattle.ps_validate.proofs.Unrefused.{StandsFor, entry-error, part-error, place-error, unrefused}
 use Rattle.ps_validate.proofs.Weights.{entry_weight, order-weighs, weight}
-use Rattle.ps_validate.specs.Checks.{IsCheckError, IsChecked}
+use Rattle.ps_validate.specs.Checks.{IsCheckError}
 use Rattle.ps_validate.specs.Fit.{HaveOneInput, IsWellFormed, IsPlaced}
-use Rattle.ps_validate.specs.Known.{AreKnown, IsKnown, Known, schema_in, schemas_in}
+use Rattle.ps_validate.specs.Known.{AreKnown, Known, schemas_in}
 use Rattle.ps_validate.specs.Nodes.{GivesSchema, IsNodeError}
 use Rattle.ps_validate.specs.Valid.{HaveSchemas, IsPlanError}
 

@@ -1,6 +1,6 @@
 -- Columns of which some are taken away still have names that differ, and so none repeats.
-use Rattle.std.proofs.Common.{◌≡◌, List, [], ◌∷◌, ◌++◌, Bool, true, false, refl, sym, subst, ◌∙◌, ap}
-use Rattle.std.specs.Prelude.{if◌then◌else◌, not, ◌&&◌, ◌||◌, IsTrue}
+use Rattle.std.proofs.Common.{◌≡◌, List, [], ◌∷◌, ◌++◌, Bool, true, false, refl, subst, ◌∙◌, ap}
+use Rattle.std.specs.Prelude.{if◌then◌else◌, not, ◌||◌, IsTrue}
 use Rattle.std.specs.Str.{bytes_eq}
 use Rattle.std.proofs.lemmas.Bool.{and_from, and_parts}
 use Rattle.pu_base.specs.declared.arena.Node.{Node}
@@ -8,7 +8,6 @@ use Rattle.ps_frame.specs.Frames.{has_distinct_names, has_name}
 use Rattle.ps_frame.specs.Tables.{Fields}
 use Rattle.ps_frame.specs.declared.refusal.PolarsError.{PolarsError}
 use Rattle.ps_frame.specs.declared.refusal.PolarsError.TheVariants as error
-use Rattle.ps_frame.specs.declared.value.DataType.{DataType}
 use Rattle.ps_meaning.specs.Schemas.{is_among, names_of, without}
 use Rattle.ps_meaning.specs.Steps.{Name}
 use Rattle.ps_validate.proofs.Selecting.{differ}

@@ -1,24 +1,15 @@
--- Entries that fit, and what is refused of others.
-use Rattle.std.proofs.Common.{◌≡◌, ◌≢◌, ℕ, List, [], ◌∷◌, Ok, Err, Result, refl, sym, subst, ap, inl, inr}
-use Rattle.std.specs.Prelude.{◌⊎◌, IfErr, OnErr, OnOk}
+-- What a step is refused for, its entry is refused for.
+use Rattle.std.proofs.Common.{ℕ, List, inl}
 use Rattle.pu_base.specs.declared.arena.Node.{Node}
-use Rattle.ps_frame.specs.Trees.{Tree}
 use Rattle.ps_frame.specs.declared.refusal.Compute.{Compute}
 use Rattle.ps_frame.specs.declared.refusal.Compute.TheVariants as compute
 use Rattle.ps_frame.specs.declared.refusal.PolarsError.{PolarsError}
 use Rattle.ps_frame.specs.declared.refusal.PolarsError.TheVariants as error
 use Rattle.ps_frame.specs.declared.refusal.Why.{Why}
 use Rattle.ps_frame.specs.declared.refusal.Why.TheVariants as why
-use Rattle.ps_meaning.specs.Laws.{IsBuilt}
-use Rattle.ps_meaning.specs.StepRefusals.{FlagsMisfit, HasBadKeys, HasNegativeCut, HasNoKey, IsFileSink, IsNegative, IsSinkStep, IsValidation, KeysMisfit, NamesMissingFunction}
-use Rattle.ps_meaning.specs.Steps.{Cut, DistinctStep, Step, distinct, function_step, group_step, hconcat, join, key_trees, named_trees, sink, slice, sort, sort_step, union}
-use Rattle.ps_plan.specs.Entries.{entry_inputs, entry_step}
-use Rattle.ps_meaning.specs.declared.options.FunctionIR.{FunctionIR}
-use Rattle.ps_meaning.specs.declared.options.FunctionIR.TheVariants as call
-use Rattle.ps_plan.specs.declared.ir.IR.{IR}
-use Rattle.ps_plan.specs.declared.ir.IR.TheVariants as entry
+use Rattle.ps_meaning.specs.Steps.{Step}
 use Rattle.ps_validate.specs.Entries.{IsStepError}
-use Rattle.ps_validate.specs.Fit.{IsEntryError, IsWellFormed}
+use Rattle.ps_validate.specs.Fit.{IsEntryError}
 
 -- what a step is refused for by itself its entry is refused for
 pub step-error : (count : ℕ) (at : Node) (step : Step) (inputs : List Node) (e : PolarsError) → IsStepError at step e → IsEntryError count at step inputs e

@@ -1,30 +1,27 @@
 -- A group-by's keys and aggregates are typed one after the other.
-use Rattle.std.proofs.Common.{◌≡◌, ◌≢◌, List, [], ◌∷◌, ◌++◌, Bool, true, false, Ok, Err, Result, refl, sym, subst, ◌∙◌, ap, inl, inr, append_assoc}
-use Rattle.std.specs.Prelude.{Contains, not, ◌&&◌, ◌||◌, ◌⊎◌, IsTrue, IsFalse, IfErr, IsErrAnd, Option, Some, None, option_map, is_some}
+use Rattle.std.proofs.Common.{◌≡◌, ◌≢◌, List, [], ◌∷◌, ◌++◌, Bool, true, false, refl, sym, subst, ◌∙◌, ap, inl, inr, append_assoc}
+use Rattle.std.specs.Prelude.{Contains, ◌&&◌, ◌||◌, IsTrue, Option, Some, None, option_map, is_some}
 use Rattle.std.specs.List.{list_any}
 use Rattle.std.specs.Str.{bytes_eq}
 use Rattle.std.proofs.lemmas.Bool.{and_from, and_parts, or_cases, or_left, or_right}
 use Rattle.std.proofs.lemmas.List.Folds.{list_any-append}
 use Rattle.pu_base.specs.declared.arena.Node.{Node}
-use Rattle.ps_frame.specs.Frames.{has_distinct_names, has_name}
+use Rattle.ps_frame.specs.Frames.{has_distinct_names}
 use Rattle.ps_frame.specs.Functions.{Functions}
-use Rattle.ps_frame.specs.Parts.{is_literal_aggregate, reads_column, some_part, tree_parts}
-use Rattle.ps_frame.specs.Refusals.{breaks_rule, is_accepted}
+use Rattle.ps_frame.specs.Parts.{is_literal_aggregate, some_part, tree_parts}
+use Rattle.ps_frame.specs.Refusals.{is_accepted}
 use Rattle.ps_frame.specs.Tables.{Fields}
 use Rattle.ps_frame.specs.Trees.{Tree}
 use Rattle.ps_frame.specs.Typing.{kind_over}
-use Rattle.ps_frame.specs.declared.expr.What.{What}
-use Rattle.ps_frame.specs.declared.expr.What.TheVariants as what
 use Rattle.ps_frame.specs.declared.refusal.PolarsError.{PolarsError}
 use Rattle.ps_frame.specs.declared.refusal.PolarsError.TheVariants as error
 use Rattle.ps_frame.specs.declared.value.DataType.{DataType}
-use Rattle.ps_meaning.specs.StepRefusals.{Refusal, TypingRefused, break_rules, column_not_found, duplicate, invalid_plan, lacks_column, no_key, repeats, schema_mismatch, unsupported}
-use Rattle.ps_meaning.specs.Schemas.{both as both_of, expr_names, fields_of, is_among, names_of, output_schema}
-use Rattle.ps_meaning.specs.Steps.{Cut, GroupStep, Name, Named, Step, exprs_of, group_by, group_step, named_trees, select}
-use Rattle.ps_meaning.specs.declared.options.ExprIR.{ExprIR}
+use Rattle.ps_meaning.specs.StepRefusals.{break_rules, lacks_column, repeats}
+use Rattle.ps_meaning.specs.Schemas.{both as both_of, expr_names, fields_of, is_among, names_of}
+use Rattle.ps_meaning.specs.Steps.{GroupStep, Name, Named, exprs_of, group_by}
 use Rattle.ps_typing.proofs.Parts.{AreAmong, among-left, among-right, carried}
 use Rattle.ps_validate.proofs.Selecting.{both-some, breaks-none, holds-none, lacks-none, names-same, select-error}
-use Rattle.ps_validate.proofs.Typed.{Shown, gives-by}
+use Rattle.ps_validate.proofs.Typed.{gives-by}
 use Rattle.ps_validate.specs.Fields.{IsFieldError, all_parts, not_scalar}
 use Rattle.ps_validate.specs.Nodes.{GivesSchema, IsNodeError}
 

@@ -1,6 +1,5 @@
 -- Trees stay where entries are added to the arena of expressions.
-use Rattle.std.proofs.Common.{◌≡◌, ℕ, zero, suc, ◌+◌, ◌<◌, ◌≤◌, List, [], ◌∷◌, ◌++◌, length, slice_get, Option, Some, None, refl, sym, subst, ◌∙◌, ap, arith, length-append}
-use Rattle.std.specs.Prelude.{Contains, map}
+use Rattle.std.proofs.Common.{◌≡◌, ℕ, zero, suc, ◌+◌, List, [], ◌∷◌, ◌++◌, length, slice_get, Option, Some, None, refl, sym, subst, ◌∙◌, ap, arith, length-append}
 use Rattle.std.specs.List.{AllByRecursion}
 use Rattle.std.proofs.lemmas.Option.{slice_get_within}
 use Rattle.pu_base.specs.declared.arena.Node.{Node}
@@ -10,14 +9,11 @@ use Rattle.ps_frame.specs.declared.expr.AExpr.{AExpr}
 use Rattle.ps_frame.specs.declared.expr.AExpr.TheVariants as expr
 use Rattle.ps_frame.specs.declared.expr.IRAggExpr.{IRAggExpr}
 use Rattle.ps_frame.specs.declared.expr.IRAggExpr.TheVariants as agg
-use Rattle.ps_plan.proofs.Unfolding.{IsPlan-in_range}
 use Rattle.ps_meaning.specs.PlanTrees.{AreCompletePlans, IsCompletePlan, PlanTree, PlanTrees}
 use Rattle.ps_plan.specs.Plans.{IsPlan, node_tree, plan_at, plan_trees_of, plan_within}
-use Rattle.ps_meaning.specs.Steps.{Step, exprs_of, function_step, group_step, join, key_trees, name_in, named_trees, sort_step, step_exprs}
+use Rattle.ps_meaning.specs.Steps.{Step, exprs_of, key_trees, name_in, named_trees, step_exprs}
 use Rattle.ps_plan.specs.Entries.{entry_inputs, entry_step}
 use Rattle.ps_meaning.specs.declared.options.ExprIR.{ExprIR}
-use Rattle.ps_meaning.specs.declared.options.FunctionIR.{FunctionIR}
-use Rattle.ps_meaning.specs.declared.options.FunctionIR.TheVariants as call
 use Rattle.ps_plan.specs.declared.ir.IR.{IR}
 use Rattle.ps_plan.specs.declared.ir.IR.TheVariants as entry
 use Rattle.ps_survey.proofs.Lists.{slice_get-left}

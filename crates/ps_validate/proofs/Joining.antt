@@ -1,6 +1,6 @@
 -- A join's keys have the same kinds in pairs, and its columns are those of both sides.
-use Rattle.std.proofs.Common.{◌≡◌, ◌≢◌, ℕ, suc, List, [], ◌∷◌, ◌++◌, length, Bool, true, false, refl, sym, subst, ◌∙◌, ap, inl, inr, arith}
-use Rattle.std.specs.Prelude.{Contains, map, not, zip, ◌&&◌, ◌||◌, ◌⊎◌, IsTrue, Option, Some, is_some, unwrap_or}
+use Rattle.std.proofs.Common.{◌≡◌, ◌≢◌, List, [], ◌∷◌, ◌++◌, length, Bool, true, false, refl, sym, subst, ◌∙◌, ap, inl, inr, arith}
+use Rattle.std.specs.Prelude.{Contains, map, not, zip, ◌||◌, ◌⊎◌, IsTrue, Some, is_some}
 use Rattle.std.specs.List.{list_any}
 use Rattle.std.proofs.lemmas.Bool.{or_cases, or_left, or_right}
 use Rattle.std.proofs.lemmas.List.Elements.{Contains-append_cases, Contains-append_left, Contains-append_right}
@@ -17,12 +17,12 @@ use Rattle.ps_frame.specs.declared.refusal.PolarsError.TheVariants as error
 use Rattle.ps_frame.specs.declared.value.DataType.{DataType}
 use Rattle.ps_frame.specs.declared.value.DataType.TheVariants as kind
 use Rattle.ps_meaning.specs.StepRefusals.{break_rules, lacks_column, pairs_differ}
-use Rattle.ps_meaning.specs.Schemas.{join_schema, left_output, names_of, output_schema, right_output, suffix_of, suffixed}
+use Rattle.ps_meaning.specs.Schemas.{join_schema, left_output, names_of, right_output, suffix_of, suffixed}
 use Rattle.ps_meaning.specs.Steps.{JoinStep, Name, join}
 use Rattle.ps_typing.specs.Refused.{IsErrorAmong}
 use Rattle.ps_validate.proofs.Grouping.{parts-append}
 use Rattle.ps_validate.proofs.Keying.{among-error, keys-break, keys-hold, keys-lack}
-use Rattle.ps_validate.proofs.Typed.{Shown, gives-by, repeat-error}
+use Rattle.ps_validate.proofs.Typed.{gives-by, repeat-error}
 use Rattle.ps_validate.specs.Columns.{IsRepeatError}
 use Rattle.ps_validate.specs.Fields.{all_parts}
 use Rattle.ps_validate.specs.Nodes.{GivesSchema, IsNodeError}

@@ -1,6 +1,6 @@
 -- Keys that are typed one after another.
-use Rattle.std.proofs.Common.{◌≡◌, ℕ, suc, ◌+◌, ◌<◌, ◌≤◌, List, [], ◌∷◌, ◌++◌, length, get_or, drop, Bool, true, false, refl, sym, subst, ◌∙◌, ap, append_assoc, add-one, drop-cons, arith, inl, inr}
-use Rattle.std.specs.Prelude.{Contains, map, not, ◌&&◌, ◌||◌, ◌⊎◌, IsTrue, Option, Some, is_some}
+use Rattle.std.proofs.Common.{◌≡◌, ℕ, suc, ◌+◌, ◌<◌, ◌≤◌, List, [], ◌∷◌, ◌++◌, length, get_or, drop, Bool, true, false, refl, sym, subst, ◌∙◌, ap, add-one, drop-cons, arith, inl, inr}
+use Rattle.std.specs.Prelude.{Contains, map, not, ◌⊎◌, IsTrue, Option, Some, is_some}
 use Rattle.std.specs.List.{AllByRecursion, list_any}
 use Rattle.std.proofs.lemmas.Bool.{and_from, and_parts, or_cases}
 use Rattle.std.proofs.lemmas.List.{append-nil}

@@ -1,12 +1,12 @@
 -- A part that is left out stands in the arena under an expression, and the other way round.
-use Rattle.std.proofs.Common.{◌≡◌, ℕ, zero, suc, ◌<◌, List, [], ◌∷◌, ◌++◌, length, slice_get, refl, sym, subst, ◌∙◌, ap, arith, inl, inr}
+use Rattle.std.proofs.Common.{◌≡◌, ℕ, zero, suc, List, [], ◌∷◌, ◌++◌, length, slice_get, refl, sym, subst, ◌∙◌, ap, arith, inl, inr}
 use Rattle.std.specs.Prelude.{Contains, ◌⊎◌, Option, Some, None}
 use Rattle.std.specs.List.{AllByRecursion}
 use Rattle.std.proofs.lemmas.List.Elements.{Contains-append_cases, Contains-append_left, Contains-append_right}
 use Rattle.pu_base.specs.declared.arena.Node.{Node}
 use Rattle.ps_frame.proofs.Unfolding.{tree_at-entry}
 use Rattle.ps_frame.specs.Parts.{tree_parts, trees_parts}
-use Rattle.ps_frame.specs.Trees.{AreComplete, IsComplete, IsExpression, Tree, aggregate_tree, entry_tree, tree_at, tree_within, trees_of}
+use Rattle.ps_frame.specs.Trees.{AreComplete, IsComplete, Tree, aggregate_tree, entry_tree, tree_at, tree_within, trees_of}
 use Rattle.ps_frame.specs.declared.expr.AExpr.{AExpr}
 use Rattle.ps_frame.specs.declared.expr.AExpr.TheVariants as expr
 use Rattle.ps_frame.specs.declared.expr.IRAggExpr.{IRAggExpr}

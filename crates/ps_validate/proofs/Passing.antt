@@ -1,13 +1,13 @@
 -- Nodes that pass their input's columns on.
-use Rattle.std.proofs.Common.{◌≡◌, ◌≢◌, List, [], ◌∷◌, true, false, refl}
+use Rattle.std.proofs.Common.{◌≡◌, ◌≢◌, [], ◌∷◌, true, false, refl}
 use Rattle.std.specs.Prelude.{IsTrue}
 use Rattle.pu_base.specs.declared.arena.Node.{Node}
 use Rattle.ps_frame.specs.Frames.{has_distinct_names}
 use Rattle.ps_frame.specs.Functions.{Functions}
 use Rattle.ps_frame.specs.Tables.{Fields}
 use Rattle.ps_frame.specs.declared.refusal.PolarsError.{PolarsError}
-use Rattle.ps_meaning.specs.Steps.{Step, scan, project, select, hstack, filter, slice, sink, row_index, user, sort, union, hconcat, cache, group_by, join, distinct, left_out}
-use Rattle.ps_validate.proofs.Typed.{Shown, empty-error, gives-by, none-left}
+use Rattle.ps_meaning.specs.Steps.{Step, slice, sink, cache}
+use Rattle.ps_validate.proofs.Typed.{empty-error, gives-by, none-left}
 use Rattle.ps_validate.specs.Columns.{IsEmptyError}
 use Rattle.ps_validate.specs.Nodes.{GivesSchema, IsNodeError, PassesColumns}
 

@@ -1,6 +1,6 @@
 -- Scans, projections and distinct rows: which rules on names hold of them, and what is refused.
-use Rattle.std.proofs.Common.{◌≡◌, ◌≢◌, List, [], ◌∷◌, Bool, true, false, refl, sym, subst, ◌∙◌, ap, inl, inr}
-use Rattle.std.specs.Prelude.{IsTrue, Option, Some, None}
+use Rattle.std.proofs.Common.{◌≡◌, ◌≢◌, List, [], ◌∷◌, Bool, true, false, refl, sym, subst, inl}
+use Rattle.std.specs.Prelude.{IsTrue, Some, None}
 use Rattle.pu_base.specs.declared.arena.Node.{Node}
 use Rattle.ps_frame.specs.Frames.{has_distinct_names}
 use Rattle.ps_frame.specs.Functions.{Functions}
@@ -13,7 +13,7 @@ use Rattle.ps_meaning.specs.Steps.{Cut, Name, Step, distinct, project, scan}
 use Rattle.ps_meaning.specs.declared.options.UniqueKeepStrategy.{UniqueKeepStrategy}
 use Rattle.ps_validate.proofs.Naming.{named-lacks, named-names}
 use Rattle.ps_validate.proofs.Selecting.{differ}
-use Rattle.ps_validate.proofs.Typed.{Shown, gives-by, names-are, none-left}
+use Rattle.ps_validate.proofs.Typed.{gives-by, names-are, none-left}
 use Rattle.ps_validate.specs.Columns.{IsNamingError}
 use Rattle.ps_validate.specs.Nodes.{GivesSchema, IsNodeError}
 

@@ -1,6 +1,6 @@
 -- Fields that are pushed one after another from those of a schema.
-use Rattle.std.proofs.Common.{◌≡◌, ℕ, zero, suc, ◌+◌, ◌<◌, List, [], ◌∷◌, ◌++◌, length, drop, Bool, true, false, refl, sym, subst, ◌∙◌, ap, append_assoc, add-one, arith}
-use Rattle.std.specs.Prelude.{if◌then◌else◌, not, unwrap_or, Option, Some, None, option_map, slice_get, map}
+use Rattle.std.proofs.Common.{◌≡◌, ℕ, zero, suc, ◌+◌, List, [], ◌∷◌, ◌++◌, length, drop, Bool, true, false, refl, sym, subst, ◌∙◌, ap, append_assoc, add-one}
+use Rattle.std.specs.Prelude.{if◌then◌else◌, not, unwrap_or, Option, Some, None, option_map, slice_get}
 use Rattle.std.proofs.lemmas.List.{append-nil, map-append}
 use Rattle.std.proofs.Math.Seq.{drop-length}
 use Rattle.pu_base.specs.declared.arena.Node.{Node}

@@ -12,7 +12,7 @@ use Rattle.ps_frame.specs.declared.value.DataType.TheVariants as kind
 use Rattle.ps_meaning.specs.Schemas.{both as both_of, fields_of}
 use Rattle.ps_meaning.specs.Steps.{Named, filter, select}
 use Rattle.ps_validate.proofs.Selecting.{breaks-none, holds-none, lacks-none, names-same}
-use Rattle.ps_validate.proofs.Typed.{Shown, gives-by}
+use Rattle.ps_validate.proofs.Typed.{gives-by}
 use Rattle.ps_validate.specs.Nodes.{GivesSchema}
 
 pub added-first : (r : Option Fields) (fs : Fields) → option_map (λ gs. [] ++ gs) r ≡ Some fs → r ≡ Some fs

@@ -1,6 +1,6 @@
 -- Expressions that have kinds break no rule, and what is refused of them.
-use Rattle.std.proofs.Common.{◌≡◌, ◌≢◌, List, [], ◌∷◌, ◌++◌, Bool, true, false, refl, sym, subst, ◌∙◌, ap, inl, inr}
-use Rattle.std.specs.Prelude.{Contains, not, ◌&&◌, ◌||◌, ◌⊎◌, IsTrue, IsFalse, Option, Some, None, option_map, is_some}
+use Rattle.std.proofs.Common.{◌≡◌, ◌≢◌, List, [], ◌∷◌, Bool, true, false, refl, sym, subst, ◌∙◌, ap, inl, inr}
+use Rattle.std.specs.Prelude.{Contains, not, ◌&&◌, ◌||◌, IsTrue, Option, Some, None, is_some}
 use Rattle.std.specs.List.{list_any}
 use Rattle.std.specs.Str.{bytes_eq}
 use Rattle.std.proofs.lemmas.Bool.{and_from, and_parts, or_cases, or_left}
@@ -16,13 +16,12 @@ use Rattle.ps_frame.specs.Tables.{Fields}
 use Rattle.ps_frame.specs.Trees.{Tree}
 use Rattle.ps_frame.specs.Typing.{kind_over}
 use Rattle.ps_frame.specs.declared.expr.What.{What}
-use Rattle.ps_frame.specs.declared.expr.What.TheVariants as what
 use Rattle.ps_frame.specs.declared.refusal.PolarsError.{PolarsError}
 use Rattle.ps_frame.specs.declared.refusal.PolarsError.TheVariants as error
 use Rattle.ps_frame.specs.declared.value.DataType.{DataType}
 use Rattle.ps_frame.specs.declared.value.DataType.TheVariants as kind
-use Rattle.ps_meaning.specs.StepRefusals.{Refusal, TypingRefused, break_rules, column_not_found, duplicate, invalid_plan, lacks_column, no_key, repeats, schema_mismatch, unsupported}
-use Rattle.ps_meaning.specs.Schemas.{both as both_of, expr_names, fields_of, is_among, names_of, output_schema}
+use Rattle.ps_meaning.specs.StepRefusals.{break_rules, lacks_column, repeats}
+use Rattle.ps_meaning.specs.Schemas.{both as both_of, expr_names, fields_of, is_among, names_of}
 use Rattle.ps_meaning.specs.Steps.{Name, Named, exprs_of, filter, select}
 use Rattle.ps_typing.proofs.Exact.{any-at, any-weaker, breaks-refused, none-refused, unknown-refused}
 use Rattle.ps_validate.proofs.Adding.{among-has}

@@ -1,6 +1,6 @@
 -- Steps that set columns beside each other, or tables above each other.
-use Rattle.std.proofs.Common.{◌≡◌, ◌≢◌, ℕ, suc, ◌+◌, ◌<◌, List, [], ◌∷◌, ◌++◌, length, get_or, drop, Bool, true, false, refl, sym, subst, ◌∙◌, ap, append_assoc, add-one, drop-cons, arith, inl, inr}
-use Rattle.std.specs.Prelude.{Any, IsTrue, Option, Some, None, is_some, map, option_map, slice_get, unwrap_or, zero}
+use Rattle.std.proofs.Common.{◌≡◌, ◌≢◌, ℕ, suc, ◌+◌, ◌<◌, List, [], ◌∷◌, ◌++◌, length, get_or, drop, true, false, refl, sym, subst, ◌∙◌, ap, append_assoc, add-one, drop-cons, arith, inl, inr}
+use Rattle.std.specs.Prelude.{Any, IsTrue, Option, Some, None, is_some, map, option_map, zero}
 use Rattle.std.specs.List.{AllByRecursion}
 use Rattle.std.proofs.lemmas.List.{append-nil, length-map, map-append}
 use Rattle.std.proofs.Math.Seq.{drop-length}
@@ -15,15 +15,15 @@ use Rattle.ps_frame.specs.declared.refusal.PolarsError.{PolarsError}
 use Rattle.ps_frame.specs.declared.refusal.PolarsError.TheVariants as error
 use Rattle.ps_frame.specs.declared.value.DataType.{DataType}
 use Rattle.ps_frame.specs.declared.value.DataType.TheVariants as kind
-use Rattle.ps_meaning.specs.StepRefusals.{StepMismatch, break_rules, lacks_column, repeats}
-use Rattle.ps_meaning.specs.Schemas.{expr_names, fields_of, first_schema, joined_schemas, names_of, output_schema, put_fields, schema_or_empty}
+use Rattle.ps_meaning.specs.StepRefusals.{repeats}
+use Rattle.ps_meaning.specs.Schemas.{expr_names, fields_of, joined_schemas, names_of, output_schema, put_fields, schema_or_empty}
 use Rattle.ps_meaning.specs.Steps.{Cut, Name, Named, exprs_of, hconcat, hstack, row_index, union, user}
 use Rattle.ps_validate.proofs.Grouping.{repeats-left}
 use Rattle.ps_validate.proofs.Keying.{among-error}
 use Rattle.ps_validate.proofs.Selecting.{breaks-none, differ, holds-none, lacks-none, names-same}
 use Rattle.ps_validate.proofs.Stacking.{put-all}
-use Rattle.ps_validate.proofs.Typed.{Shown, gives-by, names-are, none-left, repeat-error}
-use Rattle.ps_validate.specs.Columns.{IsEmptyError, IsRepeatError, absent_from, with_kinds}
+use Rattle.ps_validate.proofs.Typed.{gives-by, names-are, none-left, repeat-error}
+use Rattle.ps_validate.specs.Columns.{IsRepeatError, absent_from, with_kinds}
 use Rattle.ps_validate.specs.Fields.{IsFieldError}
 use Rattle.ps_validate.specs.Known.{AreKnown, IsKnown, Known, schema_in, schemas_in}
 use Rattle.ps_validate.specs.Nodes.{GivesSchema, IsNodeError}

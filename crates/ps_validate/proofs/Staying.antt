@@ -1,20 +1,18 @@
 -- A valid plan stays valid where entries are added to the arena of expressions.
-use Rattle.std.proofs.Common.{◌≡◌, ℕ, ◌<◌, ◌≤◌, List, [], ◌∷◌, ◌++◌, length, slice_get, Option, Some, None, refl, sym, subst, ◌∙◌, ap, arith, inl, inr, length-append}
-use Rattle.std.specs.Prelude.{Contains, ◌⊎◌, IsSomeAnd, map}
-use Rattle.std.specs.List.{AllByRecursion}
+use Rattle.std.proofs.Common.{◌≡◌, ℕ, ◌<◌, List, [], ◌∷◌, ◌++◌, length, slice_get, Option, Some, refl, sym, subst, ◌∙◌, ap, arith, inl, inr, length-append}
+use Rattle.std.specs.Prelude.{Contains, IsSomeAnd, map}
 use Rattle.pu_base.specs.declared.arena.Node.{Node}
 use Rattle.ps_frame.specs.Functions.{Functions}
-use Rattle.ps_frame.specs.Trees.{IsComplete, tree_at}
+use Rattle.ps_frame.specs.Trees.{tree_at}
 use Rattle.ps_frame.specs.declared.expr.AExpr.{AExpr}
-use Rattle.ps_frame.specs.declared.expr.AExpr.TheVariants as expr
 use Rattle.ps_frame.specs.declared.expr.What.{What}
 use Rattle.ps_frame.specs.declared.expr.What.TheVariants as what
 use Rattle.ps_frame.specs.declared.refusal.Why.TheVariants as why
-use Rattle.ps_plan.specs.Graph.{Leads, Names, Path, Reached, exprs_at, here, inputs_at, named_by, onward, operands, operands_at}
+use Rattle.ps_plan.specs.Graph.{Leads, Names, Path, Reached, here, named_by, onward, operands, operands_at}
 use Rattle.ps_meaning.specs.PlanTrees.{PlanTree, depth, occurrences}
-use Rattle.ps_plan.specs.Plans.{Plan, plan_at, tree_of}
-use Rattle.ps_meaning.specs.StepRefusals.{HasBadKeys, HasNegativeOffset, HasNoKey, IsFileSink, IsSinkStep, IsValidated, NamesMissingFunction, NeedsInput, Refusal, column_not_found, duplicate, invalid_plan, no_key, schema_mismatch, unsupported}
-use Rattle.ps_plan.specs.Refusals.{GraphRefused, HasUnsupported, IsClean, IsLeftOut, IsMisshapen, IsPastLimits, IsRefused, IsValid, StepIs, TreeRefused, expr_in_circle, expr_left_out, expr_missing, function_missing, in_circle, input_missing, no_input, node_left_out, root_missing, sink_below, too_deep, too_large, two_inputs}
+use Rattle.ps_plan.specs.Plans.{Plan, tree_of}
+use Rattle.ps_meaning.specs.StepRefusals.{HasBadKeys, HasNoKey, IsFileSink, IsSinkStep, IsValidated, NamesMissingFunction, NeedsInput, Refusal, column_not_found, duplicate, invalid_plan, no_key, schema_mismatch, unsupported}
+use Rattle.ps_plan.specs.Refusals.{GraphRefused, HasUnsupported, IsClean, IsLeftOut, IsMisshapen, IsPastLimits, IsValid, StepIs, TreeRefused, expr_in_circle, expr_left_out, expr_missing, function_missing, in_circle, input_missing, no_input, node_left_out, root_missing, sink_below, too_deep, too_large, two_inputs}
 use Rattle.ps_meaning.specs.Schemas.{output_schema, tree_schema}
 use Rattle.ps_meaning.specs.Steps.{Step}
 use Rattle.ps_plan.specs.Entries.{entry_inputs, entry_step}
@@ -27,7 +25,7 @@ use Rattle.ps_plan.proofs.ValidPlans.{in-range, no-circle, path-join, reached-co
 use Rattle.ps_survey.proofs.Lists.{slice_get-left}
 use Rattle.ps_walks.specs.Accepted.{schemas_at}
 use Rattle.ps_walks.specs.Fit.{HasSchemas, plan_schemas}
-use Rattle.ps_validate.proofs.Growing.{entry_step-kept, plan-kept, tree-kept}
+use Rattle.ps_validate.proofs.Growing.{entry_step-kept, plan-kept}
 use Rattle.ps_validate.specs.Valid.{HaveSchemas, IsValidWith, ValidNodes, plan_with}
 
 module _ (F : Functions) (v : ValidNodes) (exprs more : List AExpr) (valid : IsValid F (plan_with v exprs)) where
@@ -84,7 +82,6 @@ module _ (F : Functions) (v : ValidNodes) (exprs more : List AExpr) (valid : IsV
     limits-back (two_inputs other id a b way one two ne) = two_inputs other id a b way one two ne
 
     unsupported-back : (w : What) → HasUnsupported new n w → HasUnsupported old n w
-    unsupported-back what.NegativeOffset h = at-step HasNegativeOffset h
     unsupported-back what.Validation h = at-step IsValidated h
     unsupported-back what.RootNotSink h = (h.0, at-step (λ s. ¬ IsSinkStep s) h.1)
     unsupported-back what.FileSink h = at-step IsFileSink h

@@ -1,5 +1,5 @@
 -- When no rule on names or kinds refuses a step, and which errors stand for such a rule.
-use Rattle.std.proofs.Common.{◌≡◌, ◌≢◌, List, [], ◌∷◌, Bool, true, false, Ok, Err, Result, refl, sym, subst, ◌∙◌, ap, arith, inl, inr}
+use Rattle.std.proofs.Common.{◌≡◌, ◌≢◌, List, [], true, Ok, Err, Result, sym, subst, ◌∙◌, ap, arith, inl, inr}
 use Rattle.std.specs.Prelude.{Contains, IfErr, IfOk, OnErr, OnOk, IsErrAnd, IsTrue, Option, Some, unwrap_or}
 use Rattle.pu_base.specs.declared.arena.Node.{Node}
 use Rattle.ps_frame.specs.Frames.{has_distinct_names}

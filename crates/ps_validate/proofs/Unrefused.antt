@@ -1,12 +1,10 @@
 -- When no refusal that the arenas decide holds at a reached node, and which errors stand for one.
-use Rattle.std.proofs.Common.{◌≡◌, ◌≢◌, ℕ, List, [], ◌∷◌, length, refl, sym, subst, ◌∙◌, ap, inl, inr}
+use Rattle.std.proofs.Common.{◌≡◌, ℕ, List, [], ◌∷◌, refl, sym, subst, ◌∙◌, ap, inl, inr}
 use Rattle.std.specs.Prelude.{Contains, ◌⊎◌, IsSomeAnd, Option, Some, map, slice_get}
 use Rattle.std.specs.List.{AllByRecursion}
 use Rattle.pu_base.specs.declared.arena.Node.{Node}
 use Rattle.ps_frame.specs.Functions.{Functions}
-use Rattle.ps_frame.specs.Parts.{tree_parts}
 use Rattle.ps_frame.specs.Trees.{IsComplete, Tree, tree_at}
-use Rattle.ps_frame.specs.declared.expr.AExpr.TheVariants as expr
 use Rattle.ps_frame.specs.declared.expr.What.{What}
 use Rattle.ps_frame.specs.declared.expr.What.TheVariants as what
 use Rattle.ps_frame.specs.declared.refusal.Compute.{Compute}
@@ -16,21 +14,20 @@ use Rattle.ps_frame.specs.declared.refusal.PolarsError.TheVariants as error
 use Rattle.ps_frame.specs.declared.refusal.Why.{Why}
 use Rattle.ps_frame.specs.declared.refusal.Why.TheVariants as why
 use Rattle.ps_meaning.specs.Errors.{refusal_error}
-use Rattle.ps_plan.specs.Graph.{Names, Path, Reached, exprs_at, inputs_at, named_by, operands_at}
+use Rattle.ps_plan.specs.Graph.{Reached, inputs_at, named_by}
 use Rattle.ps_meaning.specs.Laws.{IsBuilt}
 use Rattle.ps_plan.specs.Plans.{Plan}
-use Rattle.ps_meaning.specs.StepRefusals.{HasBadKeys, HasNegativeOffset, HasNoKey, IsFileSink, IsSinkStep, IsValidated, NamesMissingFunction, NeedsInput, Refusal, column_not_found, duplicate, invalid_plan, no_key, schema_mismatch, unsupported}
+use Rattle.ps_meaning.specs.StepRefusals.{HasBadKeys, HasNoKey, IsFileSink, IsSinkStep, IsValidated, NamesMissingFunction, NeedsInput, Refusal, column_not_found, duplicate, invalid_plan, no_key, schema_mismatch, unsupported}
 use Rattle.ps_plan.specs.Refusals.{EntryIs, GraphRefused, HasUnsupported, IsLeftOut, IsMisshapen, IsPastLimits, StepIs, expr_in_circle, expr_left_out, expr_missing, function_missing, in_circle, input_missing, no_input, node_left_out, root_missing, sink_below, too_deep, too_large, two_inputs}
 use Rattle.ps_meaning.specs.Steps.{Step, left_out, step_exprs}
 use Rattle.ps_plan.specs.Entries.{entry_exprs, entry_inputs, entry_step}
-use Rattle.ps_meaning.specs.declared.options.FunctionIR.TheVariants as call
 use Rattle.ps_plan.specs.declared.ir.IR.{IR}
 use Rattle.ps_plan.specs.declared.ir.IR.TheVariants as entry
 use Rattle.ps_survey.specs.Flaws.{Flaw, root_missing as root_flaw, input_missing as input_flaw, expr_missing as expr_flaw, in_circle as circle_flaw, expr_in_circle as expr_circle_flaw, too_deep as depth_flaw, too_large as size_flaw}
-use Rattle.ps_validate.proofs.LeftOuts.{held-above, no-item, tree-holds}
+use Rattle.ps_validate.proofs.LeftOuts.{held-above, tree-holds}
 use Rattle.ps_validate.proofs.StepParts.{only-left_out, own-part, part-owner}
 use Rattle.ps_validate.specs.Entries.{IsUnsupportedStep}
-use Rattle.ps_validate.specs.Fit.{HaveOneInput, IsCacheAt, IsEntryError, IsWellFormed, IsPlaceError, IsPlaced}
+use Rattle.ps_validate.specs.Fit.{HaveOneInput, IsEntryError, IsWellFormed, IsPlaceError, IsPlaced}
 use Rattle.ps_validate.specs.Nodes.{HoldsLeftOut}
 
 -- a node of a plan, with its entry
@@ -78,7 +75,6 @@ module _ (F : Functions) (plan : Plan) (n : ℕ) (e : IR) (is : slice_get plan.n
     in-limits (two_inputs other id a b way here there ne) = ne (caches n other id a b (stands n reached) (stands other way) here there)
 
     is-supported : (w : What) → HasUnsupported plan n w → ⊥
-    is-supported what.NegativeOffset h = fit.offset (at-step HasNegativeOffset h)
     is-supported what.Validation h = fit.validation (at-step IsValidated h)
     is-supported what.RootNotSink h = at-step (λ s. ¬ IsSinkStep s) h.1 (placed.root_sinks h.0)
     is-supported what.FileSink h = fit.file (at-step IsFileSink h)
@@ -138,7 +134,6 @@ module _ (F : Functions) (plan : Plan) (n : ℕ) (e : IR) (is : slice_get plan.n
   place-error error.OutOfMemory h = absurd h
 
   unsupported-step : (w : What) → IsUnsupportedStep step w → HasUnsupported plan n w
-  unsupported-step what.NegativeOffset h = as-step HasNegativeOffset h
   unsupported-step what.Validation h = as-step IsValidated h
   unsupported-step what.FileSink h = as-step IsFileSink h
   unsupported-step _ h = absurd h

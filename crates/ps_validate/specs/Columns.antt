@@ -1,5 +1,5 @@
 -- What is refused of columns that are looked up by name, or set beside others.
-use Rattle.std.specs.Prelude.{◌≡◌, List, [], ◌∷◌, unwrap_or, map, filter as kept, not, IsTrue, ⊤}
+use Rattle.std.specs.Prelude.{◌≡◌, List, [], unwrap_or, map, filter as kept, not, IsTrue, ⊤}
 use Rattle.pu_base.specs.declared.arena.Node.{Node}
 use Rattle.ps_frame.specs.Frames.{has_name}
 use Rattle.ps_frame.specs.Tables.{Fields, field_kind}

@@ -6,7 +6,7 @@ use Rattle.ps_frame.specs.declared.refusal.PolarsError.{PolarsError}
 use Rattle.ps_frame.specs.declared.refusal.PolarsError.TheVariants as error
 use Rattle.ps_frame.specs.declared.refusal.Why.TheVariants as why
 use Rattle.ps_meaning.specs.Laws.{IsBuilt}
-use Rattle.ps_meaning.specs.StepRefusals.{HasBadKeys, HasNegativeOffset, HasNoKey, IsFileSink, IsSinkStep, IsValidated, NamesMissingFunction, NeedsInput}
+use Rattle.ps_meaning.specs.StepRefusals.{HasBadKeys, HasNoKey, IsFileSink, IsSinkStep, IsValidated, NamesMissingFunction, NeedsInput}
 use Rattle.ps_plan.specs.Refusals.{IsCacheOver}
 use Rattle.ps_meaning.specs.Steps.{Step, left_out}
 use Rattle.ps_plan.specs.declared.ir.IR.{IR}
@@ -16,7 +16,6 @@ use Rattle.ps_validate.specs.Entries.{IsStepError, IsUnsupportedStep}
 pub record IsWellFormed (count : ℕ) (step : Step) (inputs : List Node) : Type 0 where
   pub keys : ¬ HasBadKeys step
   pub key : ¬ HasNoKey step
-  pub offset : ¬ HasNegativeOffset step
   pub validation : ¬ IsValidated step
   pub file : ¬ IsFileSink step
   pub function : ¬ NamesMissingFunction count step

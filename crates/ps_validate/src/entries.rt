@@ -1,10 +1,10 @@
-// What the entry of a node refuses by itself: keys and flags that don't fit, no key, an offset below 0, and what isn't
-// supported of a join or a sink.
+// What the entry of a node refuses by itself: keys and flags that don't fit, no key, and what isn't supported of a join
+// or a sink.
 ghost use Rattle.std.specs.Prelude.{◌≡◌, ◌≢◌, ◌↔◌, Bool, List, [], IfErr, IsFalse, IsTrue, OnOk, length};
 ghost use Rattle.pu_base.specs.declared.arena.Node.{Node};
 ghost use Rattle.ps_frame.specs.Trees.{Tree};
-ghost use Rattle.ps_meaning.specs.StepRefusals.{FlagsMisfit, HasNegativeCut, HasNoKey, IsFileSink, IsNegative, IsValidation, KeysMisfit};
-ghost use Rattle.ps_meaning.specs.Steps.{distinct_step, group_step, key_trees, join as join_step, sink as sink_step, slice as slice_step, sort_step, union as union_step};
+ghost use Rattle.ps_meaning.specs.StepRefusals.{FlagsMisfit, HasNoKey, IsFileSink, IsValidation, KeysMisfit};
+ghost use Rattle.ps_meaning.specs.Steps.{Cut, distinct_step, group_step, key_trees, join as join_step, sink as sink_step, sort_step};
 ghost use Rattle.ps_meaning.specs.declared.options.ExprIR.{ExprIR};
 ghost use Rattle.ps_validate.specs.Entries.{IsStepError};
 
@@ -14,51 +14,6 @@ use ps_meaning::options::{
     DistinctOptions, ExprIR, JoinArgs, JoinType, JoinValidation, SinkType, SortMultipleOptions,
 };
 use pu_base::Node;
-
-// Whether an offset is below 0.
-fn is_negative(offset: i64) -> bool
-    ensures { IsTrue result ↔ IsNegative offset }
-{
-    offset < 0
-}
-
-// Whether a slice that is applied last begins below 0.
-fn is_negative_cut(cut: &Option<(i64, usize)>) -> bool
-    ensures { IsTrue result ↔ HasNegativeCut cut.now }
-{
-    match cut {
-        Some((offset, _)) => is_negative(*offset),
-        None => false,
-    }
-}
-
-/// Refuses a slice whose offset is below 0.
-pub fn check_slice(at: Node, offset: i64, len: usize) -> PolarsResult<()>
-    ensures offset { OnOk result (¬ IsNegative offset) }
-    ensures refused { IfErr result (IsStepError at (slice_step offset len)) }
-{
-    if is_negative(offset) {
-        return Err(PolarsError::Unsupported {
-            node: at,
-            what: What::NegativeOffset,
-        });
-    }
-    Ok(())
-}
-
-/// Refuses a union whose slice begins below 0.
-pub fn check_union(at: Node, cut: &Option<(i64, usize)>) -> PolarsResult<()>
-    ensures offset { OnOk result (¬ HasNegativeCut cut.now) }
-    ensures refused { IfErr result (IsStepError at (union_step cut.now)) }
-{
-    if is_negative_cut(cut) {
-        return Err(PolarsError::Unsupported {
-            node: at,
-            what: What::NegativeOffset,
-        });
-    }
-    Ok(())
-}
 
 /// Refuses a sink that writes a file.
 pub fn check_sink(at: Node, payload: SinkType) -> PolarsResult<()>
@@ -81,18 +36,12 @@ fn flags_misfit(flags: &[bool], keys: usize) -> bool
     flags.len() != 1 && flags.len() != keys
 }
 
-/// Refuses a sort without a key, with flags that number neither 1 nor the keys, or whose slice begins below 0.
-pub fn check_sort(
-    at: Node,
-    keys: &[ExprIR],
-    cut: &Option<(i64, usize)>,
-    options: &SortMultipleOptions,
-) -> PolarsResult<()>
+/// Refuses a sort without a key, or with flags that number neither 1 nor the keys.
+pub fn check_sort(at: Node, keys: &[ExprIR], options: &SortMultipleOptions) -> PolarsResult<()>
     ensures key { OnOk result (keys.now ≢ []) }
     ensures descending { OnOk result (¬ FlagsMisfit options.now.descending (length keys.now)) }
     ensures nulls_last { OnOk result (¬ FlagsMisfit options.now.nulls_last (length keys.now)) }
-    ensures offset { OnOk result (¬ HasNegativeCut cut.now) }
-    ensures refused { IfErr result (λ e. (f : Node → Tree) → IsStepError at (sort_step f keys.now cut.now options.now) e) }
+    ensures refused { IfErr result (λ e. (f : Node → Tree) (cut : Cut) → IsStepError at (sort_step f keys.now cut options.now) e) }
 {
     if keys.is_empty()
         || flags_misfit(options.descending.as_slice(), keys.len())
@@ -103,20 +52,13 @@ pub fn check_sort(
             why: Why::Keys,
         });
     }
-    if is_negative_cut(cut) {
-        return Err(PolarsError::Unsupported {
-            node: at,
-            what: What::NegativeOffset,
-        });
-    }
     Ok(())
 }
 
-/// Refuses a group-by without a key, or whose slice begins below 0.
-pub fn check_group_by(at: Node, keys: &[ExprIR], cut: &Option<(i64, usize)>) -> PolarsResult<()>
+/// Refuses a group-by without a key.
+pub fn check_group_by(at: Node, keys: &[ExprIR]) -> PolarsResult<()>
     ensures key { OnOk result (keys.now ≢ []) }
-    ensures offset { OnOk result (¬ HasNegativeCut cut.now) }
-    ensures refused { IfErr result (λ e. (f : Node → Tree) (aggs : List ExprIR) (maintain : Bool) → IsStepError at (group_step f keys.now aggs maintain cut.now) e) }
+    ensures refused { IfErr result (λ e. (f : Node → Tree) (aggs : List ExprIR) (maintain : Bool) (cut : Cut) → IsStepError at (group_step f keys.now aggs maintain cut) e) }
 {
     if keys.is_empty() {
         return Err(PolarsError::ComputeError {
@@ -124,19 +66,12 @@ pub fn check_group_by(at: Node, keys: &[ExprIR], cut: &Option<(i64, usize)>) -> 
             why: Compute::NoKey,
         });
     }
-    if is_negative_cut(cut) {
-        return Err(PolarsError::Unsupported {
-            node: at,
-            what: What::NegativeOffset,
-        });
-    }
     Ok(())
 }
 
-/// Refuses a distinct over an empty subset, or whose slice begins below 0.
+/// Refuses a distinct over an empty subset.
 pub fn check_distinct(at: Node, options: &DistinctOptions) -> PolarsResult<()>
     ensures key { OnOk result (¬ HasNoKey (distinct_step options.now)) }
-    ensures offset { OnOk result (¬ HasNegativeCut options.now.slice) }
     ensures refused { IfErr result (IsStepError at (distinct_step options.now)) }
 {
     if let Some(names) = &options.subset {
@@ -146,12 +81,6 @@ pub fn check_distinct(at: Node, options: &DistinctOptions) -> PolarsResult<()>
                 why: Compute::NoKey,
             });
         }
-    }
-    if is_negative_cut(&options.slice) {
-        return Err(PolarsError::Unsupported {
-            node: at,
-            what: What::NegativeOffset,
-        });
     }
     Ok(())
 }
@@ -168,7 +97,7 @@ fn join_keys_fit(how: JoinType, left: &[ExprIR], right: &[ExprIR]) -> bool
     }
 }
 
-/// Refuses a join whose keys don't fit, that validates its matches, or whose slice begins below 0.
+/// Refuses a join whose keys don't fit, or that validates its matches.
 pub fn check_join(
     at: Node,
     left_on: &[ExprIR],
@@ -177,7 +106,6 @@ pub fn check_join(
 ) -> PolarsResult<()>
     ensures keys { OnOk result ((f : Node → Tree) → ¬ KeysMisfit args.now.how (key_trees f left_on.now) (key_trees f right_on.now)) }
     ensures validation { OnOk result (¬ IsValidation args.now.validation) }
-    ensures offset { OnOk result (¬ HasNegativeCut args.now.slice) }
     ensures refused { IfErr result (λ e. (f : Node → Tree) → IsStepError at (join_step (record { left_on = key_trees f left_on.now; right_on = key_trees f right_on.now; args = args.now })) e) }
 {
     if !join_keys_fit(args.how, left_on, right_on) {
@@ -190,12 +118,6 @@ pub fn check_join(
         return Err(PolarsError::Unsupported {
             node: at,
             what: What::Validation,
-        });
-    }
-    if is_negative_cut(&args.slice) {
-        return Err(PolarsError::Unsupported {
-            node: at,
-            what: What::NegativeOffset,
         });
     }
     Ok(())

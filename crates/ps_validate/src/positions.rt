@@ -7,9 +7,7 @@ ghost use Rattle.ps_meaning.specs.Steps.{function_step};
 ghost use Rattle.ps_plan.specs.Entries.{entry_inputs, entry_step};
 ghost use Rattle.ps_validate.specs.Fit.{IsEntryError, IsWellFormed, IsPlaceError, IsPlaced};
 
-use crate::entries::{
-    check_distinct, check_group_by, check_join, check_sink, check_slice, check_sort, check_union,
-};
+use crate::entries::{check_distinct, check_group_by, check_join, check_sink, check_sort};
 use ps_frame::expr::What;
 use ps_frame::refusal::{PolarsError, PolarsResult, Why};
 use ps_meaning::options::FunctionIR;
@@ -61,22 +59,17 @@ pub fn check_entry(at: Node, entry: &IR, count: usize) -> PolarsResult<()>
         | IR::Select { .. }
         | IR::HStack { .. }
         | IR::Filter { .. }
+        | IR::Slice { .. }
         | IR::Cache { .. } => Ok(()),
-        IR::Slice { offset, len, .. } => check_slice(at, *offset, *len),
         IR::Sink { payload, .. } => check_sink(at, *payload),
         IR::MapFunction { function, .. } => check_function(at, function, count),
         IR::Sort {
             by_column,
-            slice,
             sort_options,
             ..
-        } => check_sort(at, by_column.as_slice(), slice, sort_options),
-        IR::Union { inputs, options } => {
-            check_inputs(at, inputs.as_slice())?;
-            check_union(at, &options.slice)
-        }
-        IR::HConcat { inputs } => check_inputs(at, inputs.as_slice()),
-        IR::GroupBy { keys, options, .. } => check_group_by(at, keys.as_slice(), &options.slice),
+        } => check_sort(at, by_column.as_slice(), sort_options),
+        IR::Union { inputs, .. } | IR::HConcat { inputs } => check_inputs(at, inputs.as_slice()),
+        IR::GroupBy { keys, .. } => check_group_by(at, keys.as_slice()),
         IR::Join {
             left_on,
             right_on,

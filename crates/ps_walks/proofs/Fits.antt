@@ -10,7 +10,7 @@ use Rattle.ps_frame.specs.declared.refusal.Why.TheVariants as why
 use Rattle.ps_plan.specs.Graph.{Reached, inputs_at, named_by}
 use Rattle.ps_meaning.specs.Laws.{IsBuilt}
 use Rattle.ps_plan.specs.Plans.{Plan, plan_at, plan_trees_of}
-use Rattle.ps_meaning.specs.StepRefusals.{HasBadKeys, HasNegativeOffset, HasNoKey, IsFileSink, IsValidated, NamesMissingFunction, NeedsInput, Refusal, invalid_plan, no_key, unsupported}
+use Rattle.ps_meaning.specs.StepRefusals.{HasBadKeys, HasNoKey, IsFileSink, IsValidated, NamesMissingFunction, NeedsInput, Refusal, invalid_plan, no_key, unsupported}
 use Rattle.ps_plan.specs.Refusals.{GraphRefused, IsClean, IsValid, StepIs, function_missing, no_input, node_left_out}
 use Rattle.ps_meaning.specs.Schemas.{output_schema, tree_schema, tree_schemas}
 use Rattle.ps_meaning.specs.Steps.{Step, function_step}
@@ -97,7 +97,6 @@ module _ (F : Functions) (plan : Plan) (valid : IsValid F plan) (given : HasSche
             typed = rw (← input-schemas (entry_inputs e)) (typed-step F plan valid n e reached is (subst (IsClean F plan) (reached-is F plan valid n e reached is) (reached-clean F plan valid n reached)));
             keys = λ h. not-refused (invalid_plan why.Keys) (step-is HasBadKeys h);
             key = λ h. not-refused no_key (step-is HasNoKey h);
-            offset = λ h. not-refused (unsupported what.NegativeOffset) (inl (step-is HasNegativeOffset h));
             unvalidated = λ h. not-refused (unsupported what.Validation) (inl (step-is IsValidated h));
             in_memory = λ h. not-refused (unsupported what.FileSink) (inl (step-is IsFileSink h));
             known = λ h. not-refused (invalid_plan why.Shape) (function_missing (step-is (NamesMissingFunction F.count) h));

@@ -8,7 +8,7 @@ use Rattle.ps_plan.specs.Graph.{Reached}
 use Rattle.ps_meaning.specs.Laws.{IsBuilt}
 use Rattle.ps_meaning.specs.Laws.{IsTypedStep}
 use Rattle.ps_plan.specs.Plans.{Plan, tree_of}
-use Rattle.ps_meaning.specs.StepRefusals.{HasBadKeys, HasNegativeOffset, HasNoKey, IsFileSink, IsValidated, NamesMissingFunction, NeedsInput}
+use Rattle.ps_meaning.specs.StepRefusals.{HasBadKeys, HasNoKey, IsFileSink, IsValidated, NamesMissingFunction, NeedsInput}
 use Rattle.ps_meaning.specs.Schemas.{output_schema, tree_schema}
 use Rattle.ps_meaning.specs.Steps.{Step, step_exprs}
 use Rattle.ps_plan.specs.Entries.{entry_inputs, entry_step}
@@ -21,7 +21,6 @@ pub record IsFit (F : Functions) (step : Step) (ss : List Fields) : Type 0 where
   pub typed : IsTypedStep F step ss
   pub keys : ¬ HasBadKeys step
   pub key : ¬ HasNoKey step
-  pub offset : ¬ HasNegativeOffset step
   pub unvalidated : ¬ IsValidated step
   pub in_memory : ¬ IsFileSink step
   pub known : ¬ NamesMissingFunction F.count step

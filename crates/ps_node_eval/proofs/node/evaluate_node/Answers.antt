@@ -1,6 +1,5 @@
 use Rattle.std.proofs.Common.{◌≡◌, ◌<◌, ◌∙◌, List, [], length, sym, subst, ap}
 use Rattle.std.specs.Prelude.{Some, None, slice_get, unwrap_or}
-use Rattle.ps_frame.specs.Functions.{IsLawful}
 use Rattle.ps_frame.specs.Trees.{tree_at}
 use Rattle.ps_plan.proofs.ValidPlans.{reached-below}
 use Rattle.ps_plan.specs.Plans.{tree_of}

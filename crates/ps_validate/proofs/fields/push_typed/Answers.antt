@@ -1,4 +1,4 @@
-use Rattle.std.proofs.Common.{◌≡◌, ◌∷◌, ◌++◌, [], false, sym, subst, ◌∙◌, ap}
+use Rattle.std.proofs.Common.{◌≡◌, ◌∷◌, ◌++◌, [], false, subst, ◌∙◌, ap}
 use Rattle.ps_frame.specs.Frames.{has_name}
 use Rattle.ps_frame.specs.Trees.{tree_at}
 use Rattle.ps_meaning.specs.Steps.{Name}

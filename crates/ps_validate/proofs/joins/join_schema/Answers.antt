@@ -2,13 +2,13 @@ use Rattle.ps_frame.specs.Functions.{Functions}
 use Rattle.ps_frame.specs.Tables.{Fields}
 use Rattle.ps_frame.specs.Trees.{tree_at}
 use Rattle.ps_frame.specs.declared.refusal.PolarsError.{PolarsError}
-use Rattle.ps_meaning.specs.Steps.{JoinStep, join, key_trees}
+use Rattle.ps_meaning.specs.Steps.{join, key_trees}
 use Rattle.ps_validate.proofs.Joining.{column-error, join-gives, left-error, pair-error, right-error}
 use Rattle.ps_validate.proofs.KeyCounts.{keys-length}
 use Rattle.ps_validate.proofs.Typed.{answered, passed-on}
 use Rattle.ps_validate.proofs.joins.join_schema.Goals as goal
 use Rattle.ps_validate.specs.Nodes.{GivesSchema, IsNodeError}
-use Rattle.std.proofs.Common.{◌≡◌, ◌≢◌, ◌∷◌, [], length, refl, sym, ◌∙◌}
+use Rattle.std.proofs.Common.{◌≡◌, ◌≢◌, ◌∷◌, [], refl, sym, ◌∙◌}
 use Rattle.std.proofs.lemmas.Bool.{iff_false}
 
 pub returns-in_err-left_kinds-clause-refused : goal.returns-in_err-left_kinds-clause-refused

@@ -1,13 +1,9 @@
-use Rattle.ps_frame.specs.Frames.{has_distinct_names}
-use Rattle.ps_frame.specs.Tables.{Fields}
 use Rattle.ps_frame.specs.Trees.{tree_at}
-use Rattle.ps_frame.specs.declared.refusal.PolarsError.TheVariants as error
-use Rattle.ps_meaning.specs.Schemas.{bare_names, names_of, without}
+use Rattle.ps_meaning.specs.Schemas.{bare_names, without}
 use Rattle.ps_meaning.specs.Steps.{key_trees}
 use Rattle.ps_validate.proofs.Distinctness.{repeats-memory, without-distinct}
 use Rattle.ps_validate.proofs.Typed.{memory-on}
 use Rattle.ps_validate.proofs.joins.without_keys.Goals as goal
-use Rattle.std.proofs.Common.{◌≡◌, ◌∙◌, ap, sym, subst}
 
 pub returns-in_err-push_without-clause-memory : goal.returns-in_err-push_without-clause-memory
 returns-in_err-push_without-clause-memory c =

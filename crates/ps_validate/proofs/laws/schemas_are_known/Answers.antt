@@ -1,4 +1,4 @@
-use Rattle.std.proofs.Common.{◌≡◌, [], None, ap}
+use Rattle.std.proofs.Common.{[], None, ap}
 use Rattle.std.specs.Prelude.{unwrap_or}
 use Rattle.ps_plan.specs.Plans.{tree_of}
 use Rattle.ps_meaning.specs.Schemas.{tree_schema}

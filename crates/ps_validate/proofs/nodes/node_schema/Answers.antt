@@ -1,4 +1,4 @@
-use Rattle.std.proofs.Common.{◌≡◌, ◌+◌, ◌*◌, ◌≤◌, List, [], ◌∷◌, ◌++◌, arith, inl, inr, refl, sym, subst, ◌∙◌, ap}
+use Rattle.std.proofs.Common.{◌≡◌, ◌+◌, List, [], ◌∷◌, arith, inl, inr, refl, sym, subst, ◌∙◌, ap}
 use Rattle.std.specs.List.{AllByRecursion}
 use Rattle.std.specs.Prelude.{◌⊎◌, IfErr, None, Option, Result, Some, ℤ, ℕ}
 use Rattle.ps_frame.specs.Functions.{Functions}
@@ -19,7 +19,7 @@ use Rattle.ps_meaning.specs.declared.options.SinkType.{SinkType}
 use Rattle.ps_validate.proofs.Arms.{arm-given, arm-refused, left-complete, right-complete, sizes-append}
 use Rattle.ps_validate.proofs.nodes.node_schema.Goals as goal
 use Rattle.ps_validate.specs.Known.{Known, schema_in, schemas_in}
-use Rattle.ps_validate.specs.Nodes.{GivesSchema, IsNodeError, PassesColumns}
+use Rattle.ps_validate.specs.Nodes.{IsNodeError, PassesColumns}
 
 -- a join by its keys, and a distinct by its columns
 abbrev join-by : (Node → Tree) → JoinArgs → List ExprIR → List ExprIR → Step

@@ -6,7 +6,6 @@ use Rattle.ps_meaning.specs.Steps.{Step, group_step, join, key_trees, sort_step}
 use Rattle.ps_plan.specs.Entries.{entry_inputs, entry_step}
 use Rattle.ps_meaning.specs.declared.options.ExprIR.{ExprIR}
 use Rattle.ps_plan.specs.declared.ir.IR.{IR}
-use Rattle.ps_plan.specs.declared.ir.IR.TheVariants as entry
 use Rattle.ps_meaning.specs.declared.options.JoinArgs.{JoinArgs}
 use Rattle.ps_validate.proofs.Arms.{if-error}
 use Rattle.ps_validate.proofs.Fitting.{step-error}
@@ -24,13 +23,13 @@ join-by f args right left = join (record { left_on = key_trees f left; right_on 
 pub returns-in-Sort-clause-refused : goal.returns-in-Sort-clause-refused
 returns-in-Sort-clause-refused c =
     if-error (λ e. (f : Node → Tree) → IsEntryError c.args.count c.args.at (entry_step f c.args.entry.now) (entry_inputs c.args.entry.now) e) c.check_sort.result c.check_sort.ensures.refused
-    (λ e h f. by-step c.args.count c.args.at f c.args.entry.now (sort_step f c.as_slice.result.now c.in-Sort.slice c.in-Sort.sort_options) e (ap (entry_step f) c.in-Sort.is ∙ ap (λ es. sort_step f es c.in-Sort.slice c.in-Sort.sort_options) (sym c.as_slice.ensures)) (h f))
+    (λ e h f. by-step c.args.count c.args.at f c.args.entry.now (sort_step f c.as_slice.result.now c.in-Sort.slice c.in-Sort.sort_options) e (ap (entry_step f) c.in-Sort.is ∙ ap (λ es. sort_step f es c.in-Sort.slice c.in-Sort.sort_options) (sym c.as_slice.ensures)) (h f c.in-Sort.slice))
 
 pub returns-in-GroupBy-clause-refused : goal.returns-in-GroupBy-clause-refused
 returns-in-GroupBy-clause-refused c =
     if-error (λ e. (f : Node → Tree) → IsEntryError c.args.count c.args.at (entry_step f c.args.entry.now) (entry_inputs c.args.entry.now) e) c.check_group_by.result c.check_group_by.ensures.refused
     (λ e h f. by-step c.args.count c.args.at f c.args.entry.now (group_step f c.as_slice-in-GroupBy.result.now c.in-GroupBy.aggs c.in-GroupBy.maintain_order c.in-GroupBy.options.slice) e
-    (ap (entry_step f) c.in-GroupBy.is ∙ ap (λ es. group_step f es c.in-GroupBy.aggs c.in-GroupBy.maintain_order c.in-GroupBy.options.slice) (sym c.as_slice-in-GroupBy.ensures)) (h f c.in-GroupBy.aggs c.in-GroupBy.maintain_order))
+    (ap (entry_step f) c.in-GroupBy.is ∙ ap (λ es. group_step f es c.in-GroupBy.aggs c.in-GroupBy.maintain_order c.in-GroupBy.options.slice) (sym c.as_slice-in-GroupBy.ensures)) (h f c.in-GroupBy.aggs c.in-GroupBy.maintain_order c.in-GroupBy.options.slice))
 
 pub returns-in-Join-clause-refused : goal.returns-in-Join-clause-refused
 returns-in-Join-clause-refused c =

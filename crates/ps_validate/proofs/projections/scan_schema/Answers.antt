@@ -6,7 +6,7 @@ use Rattle.ps_validate.proofs.Projecting.{scan-gives}
 use Rattle.ps_validate.proofs.Typed.{answered}
 use Rattle.ps_validate.proofs.projections.scan_schema.Goals as goal
 use Rattle.ps_validate.specs.Nodes.{GivesSchema}
-use Rattle.std.proofs.Common.{◌≡◌, [], sym, subst, ◌∙◌, ap}
+use Rattle.std.proofs.Common.{[], sym, subst, ◌∙◌}
 use Rattle.std.specs.Prelude.{IsTrue, None}
 
 pub returns-clause-given : goal.returns-clause-given

@@ -9,7 +9,7 @@ use Rattle.ps_validate.proofs.Typed.{answered, empty-error, if-err, passed-on}
 use Rattle.ps_validate.proofs.schemas.group_by_schema.Goals as goal
 use Rattle.ps_validate.specs.Nodes.{GivesSchema, IsNodeError}
 use Rattle.std.proofs.Common.{◌∷◌, [], ◌∙◌, ap}
-use Rattle.std.specs.Prelude.{Bool, IfErr, not}
+use Rattle.std.specs.Prelude.{Bool, not}
 
 pub returns-in_err-push_typed-clause-refused : goal.returns-in_err-push_typed-clause-refused
 returns-in_err-push_typed-clause-refused g c =

@@ -3,7 +3,7 @@ use Rattle.ps_frame.specs.Tables.{Fields}
 use Rattle.ps_frame.specs.Trees.{tree_at}
 use Rattle.ps_frame.specs.declared.refusal.PolarsError.{PolarsError}
 use Rattle.ps_meaning.specs.Schemas.{names_of}
-use Rattle.ps_meaning.specs.Steps.{Name, named_trees, select}
+use Rattle.ps_meaning.specs.Steps.{named_trees, select}
 use Rattle.ps_validate.proofs.Grouping.{keys-fields}
 use Rattle.ps_validate.proofs.Selected.{select-gives}
 use Rattle.ps_validate.proofs.Selecting.{select-error}

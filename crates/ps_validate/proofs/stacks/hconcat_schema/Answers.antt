@@ -1,16 +1,13 @@
 use Rattle.ps_frame.specs.Functions.{Functions}
 use Rattle.ps_frame.specs.Tables.{Fields}
 use Rattle.ps_frame.specs.declared.refusal.PolarsError.{PolarsError}
-use Rattle.ps_meaning.specs.Schemas.{joined_schemas}
 use Rattle.ps_meaning.specs.Steps.{hconcat}
 use Rattle.ps_validate.proofs.Stacked.{hconcat-gives, input-known, join-end, join-error}
 use Rattle.ps_validate.proofs.Typed.{answered, passed-on}
 use Rattle.ps_validate.proofs.stacks.hconcat_schema.Goals as goal
 use Rattle.ps_validate.specs.Known.{schemas_in}
 use Rattle.ps_validate.specs.Nodes.{GivesSchema, IsNodeError}
-use Rattle.std.proofs.Common.{◌≡◌, ◌++◌, [], ◌∙◌, ap, sym, length, drop, arith, subst}
-use Rattle.std.proofs.Math.Seq.{drop-length}
-use Rattle.std.proofs.lemmas.List.{append-nil}
+use Rattle.std.proofs.Common.{◌≡◌, length, arith}
 
 pub get-requires : goal.get-requires
 get-requires c = input-known c.args.schemas.now c.args.inputs.now c.loop-input.input-index c.loop-input-test.true c.loop-input.invariant.known

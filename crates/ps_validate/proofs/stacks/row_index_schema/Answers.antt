@@ -1,4 +1,3 @@
-use Rattle.ps_frame.specs.Functions.{Functions}
 use Rattle.ps_frame.specs.Tables.{Fields}
 use Rattle.ps_frame.specs.declared.value.DataType.TheVariants as kind
 use Rattle.ps_frame.specs.declared.value.DataType.{DataType}
@@ -6,7 +5,7 @@ use Rattle.ps_meaning.specs.Steps.{Name, row_index}
 use Rattle.ps_validate.proofs.Stacked.{index-gives}
 use Rattle.ps_validate.proofs.stacks.row_index_schema.Goals as goal
 use Rattle.ps_validate.specs.Nodes.{GivesSchema}
-use Rattle.std.proofs.Common.{◌≡◌, ◌∷◌, [], ◌++◌, ◌∙◌, ap, refl, subst, sym}
+use Rattle.std.proofs.Common.{◌≡◌, ◌∷◌, [], ◌++◌, ◌∙◌, ap, subst, sym}
 
 -- the index, and then the columns
 in-front : (z one all s : Fields) (n : Name) (k : DataType) → z ≡ [] → one ≡ z ++ (n, k) ∷ [] → all ≡ one ++ s → all ≡ (n, k) ∷ s

@@ -6,7 +6,6 @@ use Rattle.ps_validate.proofs.Typed.{answered}
 use Rattle.ps_validate.proofs.stacks.union_schema.Goals as goal
 use Rattle.ps_validate.specs.Known.{schemas_in}
 use Rattle.ps_validate.specs.Nodes.{GivesSchema}
-use Rattle.std.proofs.Common.{sym}
 
 pub get-schema-requires : goal.get-schema-requires
 get-schema-requires c = first-known c.args.schemas.now c.args.inputs.now c.in-Some.first.now c.in-Some.others.now c.in-Some.ensures.cases.0 c.requires.known

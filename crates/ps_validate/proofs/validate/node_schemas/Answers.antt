@@ -1,6 +1,5 @@
-use Rattle.std.proofs.Common.{◌≡◌, ◌+◌, ◌*◌, ◌<◌, ◌≤◌, length, get_or, arith, subst, sym}
+use Rattle.std.proofs.Common.{◌≡◌, ◌+◌, ◌*◌, ◌<◌, ◌≤◌, length, get_or, arith, subst}
 use Rattle.std.proofs.lemmas.Option.{slice_get-get_or}
-use Rattle.ps_frame.specs.Functions.{Functions}
 use Rattle.ps_frame.specs.Trees.{tree_at}
 use Rattle.ps_meaning.specs.PlanTrees.{all_sizes}
 use Rattle.ps_meaning.specs.Steps.{step_exprs}

@@ -1,5 +1,4 @@
-use Rattle.std.proofs.Common.{◌≡◌, ◌≤◌, length, arith, subst, sym, ◌∙◌, ap}
-use Rattle.ps_frame.specs.Functions.{Functions}
+use Rattle.std.proofs.Common.{◌≤◌, length, arith, subst, sym, ◌∙◌}
 use Rattle.ps_plan.specs.Graph.{here}
 use Rattle.ps_survey.specs.Flaws.{plan_of}
 use Rattle.ps_survey.specs.Surveys.{IsSurvey}
