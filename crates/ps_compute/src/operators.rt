@@ -1,8 +1,10 @@
 // The operators on values. None of these calls takes memory.
 ghost use Rattle.std.specs.Prelude.{◌≡◌, ◌≢◌, ◌+ℤ◌, ◌-ℤ◌, ◌*ℤ◌, ◌+◌, ◌*◌, pos, if◌then◌else◌};
 ghost use Rattle.std.specs.Int.{int_wrap, w64};
-ghost use Rattle.ps_frame.specs.Operators.{arithmetic as arithmetic_value, binary_value, choice_of, exact, floor_div, floor_mod, idx_of, int64_of, not_value, number_or_null, three_and, three_or, wrap_idx};
+ghost use Rattle.ps_compute.specs.Orders.{order_value};
+ghost use Rattle.ps_frame.specs.Operators.{arithmetic, binary_value, choice_of, floor_div, floor_mod, not_value, three_and, three_or, wrap_idx};
 ghost use Rattle.ps_frame.specs.Values.{is_null as is_null_value, rank as rank_of, value_cmp};
+ghost use Rattle.ps_frame.specs.declared.value.Value.TheVariants as val;
 
 use ps_frame::expr::Operator;
 use ps_frame::value::Value;
@@ -54,21 +56,39 @@ pub fn is_null(value: &Value) -> bool
 pub fn binary(op: Operator, a: &Value, b: &Value) -> Value
     ensures { result ≡ binary_value op a.now b.now }
 {
+    // Numbers come first: one look at the kinds is all they take.
+    match (a, b) {
+        (Value::Int64(a), Value::Int64(b)) => of_int64(op, *a, *b),
+        (Value::IdxSize(a), Value::IdxSize(b)) => of_idx(op, *a, *b),
+        _ => of_others(op, a, b),
+    }
+}
+
+// What an operator gives of two values of which arithmetic makes no number.
+fn of_others(op: Operator, a: &Value, b: &Value) -> Value
+    requires { arithmetic op a.now b.now ≡ val.Null }
+    ensures { result ≡ binary_value op a.now b.now }
+{
     match op {
         Operator::And => and(a, b),
         Operator::Or => or(a, b),
         _ if is_null(a) || is_null(b) => Value::Null,
-        Operator::Eq => Value::Boolean(compare(a, b).is_eq()),
-        Operator::NotEq => Value::Boolean(compare(a, b).is_ne()),
-        Operator::Lt => Value::Boolean(compare(a, b).is_lt()),
-        Operator::LtEq => Value::Boolean(compare(a, b).is_le()),
-        Operator::Gt => Value::Boolean(compare(a, b).is_gt()),
-        Operator::GtEq => Value::Boolean(compare(a, b).is_ge()),
-        Operator::Plus
-        | Operator::Minus
-        | Operator::Multiply
-        | Operator::FloorDivide
-        | Operator::Modulus => arithmetic(op, a, b),
+        _ => of_order(op, compare(a, b)),
+    }
+}
+
+// What a comparison makes of an order; null for another operator.
+fn of_order(op: Operator, order: Ordering) -> Value
+    ensures { result ≡ order_value op order }
+{
+    match op {
+        Operator::Eq => Value::Boolean(order.is_eq()),
+        Operator::NotEq => Value::Boolean(order.is_ne()),
+        Operator::Lt => Value::Boolean(order.is_lt()),
+        Operator::LtEq => Value::Boolean(order.is_le()),
+        Operator::Gt => Value::Boolean(order.is_gt()),
+        Operator::GtEq => Value::Boolean(order.is_ge()),
+        _ => Value::Null,
     }
 }
 
@@ -92,18 +112,8 @@ fn or(a: &Value, b: &Value) -> Value
     }
 }
 
-fn arithmetic(op: Operator, a: &Value, b: &Value) -> Value
-    ensures { result ≡ arithmetic_value op a.now b.now }
-{
-    match (a, b) {
-        (Value::Int64(a), Value::Int64(b)) => of_int64(op, *a, *b),
-        (Value::IdxSize(a), Value::IdxSize(b)) => of_idx(op, *a, *b),
-        _ => Value::Null,
-    }
-}
-
 fn of_int64(op: Operator, a: i64, b: i64) -> Value
-    ensures { result ≡ number_or_null int64_of (exact op a b) }
+    ensures { result ≡ binary_value op (val.Int64 a) (val.Int64 b) }
 {
     match op {
         Operator::Plus => Value::Int64(int64_sum(a, b)),
@@ -111,7 +121,7 @@ fn of_int64(op: Operator, a: i64, b: i64) -> Value
         Operator::Multiply => Value::Int64(int64_product(a, b)),
         Operator::FloorDivide if b != 0 => Value::Int64(int64_quotient(a, b)),
         Operator::Modulus if b != 0 => Value::Int64(int64_remainder(a, b)),
-        _ => Value::Null,
+        _ => of_order(op, a.cmp(&b)),
     }
 }
 
@@ -149,7 +159,7 @@ fn int64_remainder(a: i64, b: i64) -> i64
 }
 
 fn of_idx(op: Operator, a: u32, b: u32) -> Value
-    ensures { result ≡ number_or_null idx_of (exact op (pos a) (pos b)) }
+    ensures { result ≡ binary_value op (val.IdxSize a) (val.IdxSize b) }
 {
     match op {
         Operator::Plus => Value::IdxSize(idx_sum(a, b)),
@@ -157,7 +167,7 @@ fn of_idx(op: Operator, a: u32, b: u32) -> Value
         Operator::Multiply => Value::IdxSize(idx_product(a, b)),
         Operator::FloorDivide if b != 0 => Value::IdxSize(idx_quotient(a, b)),
         Operator::Modulus if b != 0 => Value::IdxSize(idx_remainder(a, b)),
-        _ => Value::Null,
+        _ => of_order(op, a.cmp(&b)),
     }
 }
 

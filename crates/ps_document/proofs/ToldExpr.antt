@@ -24,7 +24,7 @@ abbrev pub what_in : Data → What
 what_in d =
     look_up (text_in d)
     (
-    (codes "NegativeOffset", what.NegativeOffset) ∷ (codes "Validation", what.Validation) ∷ (codes "NoColumns", what.NoColumns)
+    (codes "Validation", what.Validation) ∷ (codes "NoColumns", what.NoColumns)
     ∷ (codes "LiteralAggregate", what.LiteralAggregate) ∷ (codes "RootNotSink", what.RootNotSink) ∷ (codes "FileSink", what.FileSink)
     ∷ (codes "Alias", what.Alias) ∷ (codes "Explode", what.Explode) ∷ (codes "Implode", what.Implode)
     ∷ (codes "AggGroups", what.AggGroups) ∷ (codes "Window", what.Window) ∷ (codes "AnonymousFunction", what.AnonymousFunction)
@@ -38,7 +38,6 @@ what_in d =
     what.RollingGroupBy
 
 pub what-told : (w : What) → what_in (text (what_name w)) ≡ w
-what-told what.NegativeOffset = refl
 what-told what.Validation = refl
 what-told what.NoColumns = refl
 what-told what.LiteralAggregate = refl

@@ -5,6 +5,8 @@ use Rattle.std.specs.List.{AllByRecursion}
 use Rattle.serde_json.specs.Data.{Data, null}
 use Rattle.ps_frame.specs.Frames.{has_distinct_names}
 use Rattle.ps_frame.specs.Lawful.{FitsFrame}
+use Rattle.ps_frame.specs.Pushed.{with_value}
+use Rattle.ps_frame.specs.Series.{Series}
 use Rattle.ps_frame.specs.Tables.{Fields, Frame, values_at}
 use Rattle.ps_frame.specs.Values.{fits_kind}
 use Rattle.ps_frame.specs.declared.value.DataType.{DataType}
@@ -31,6 +33,12 @@ pub record IsCell (k : DataType) (v : Value) (d : Data) : Type 0 where
   pub json : d ≡ cell_json v
   pub fits : IsTrue (fits_kind k v)
   pub width : FitsItsWidth v
+
+-- a column has one more cell at its end, and this is its JSON
+pub record HasCellMore (d : Data) (old new : Series) : Type 0 where
+  pub cell : Value
+  pub grown : new ≡ with_value old cell
+  pub is_cell : IsCell old.kind cell d
 
 -- a column: its name, its kind and its cells
 abbrev pub column_json : List ℕ → DataType → List Value → Data

@@ -71,7 +71,6 @@ sink_word sink.File = codes "file_sink"
 
 -- whether this is a kind that is left out; the other ones are refusals by a plan's structure
 abbrev pub is_left_out_kind : What → Bool
-is_left_out_kind what.NegativeOffset = false
 is_left_out_kind what.Validation = false
 is_left_out_kind what.NoColumns = false
 is_left_out_kind what.LiteralAggregate = false

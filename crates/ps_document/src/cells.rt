@@ -1,13 +1,16 @@
 // The tables of a document, read off its tokens.
-ghost use Rattle.std.specs.Prelude.{◌≡◌, ◌∷◌, List, Some, IfOk, IfSome};
+ghost use Rattle.std.specs.Prelude.{◌≡◌, ◌∷◌, List, Some, IfOk, IfSome, OnOk};
+ghost use Rattle.std.specs.Bool.{OnTrue};
 ghost use Rattle.std.specs.List.{AllZip};
 ghost use Rattle.json.specs.Reads.{token_of};
 ghost use Rattle.json.specs.Token.{Token as SpecToken, begin_array, string};
 ghost use Rattle.serde_json.specs.Data.{Data, Num, number};
 ghost use Rattle.serde_json.specs.Read.{number_of};
+ghost use Rattle.ps_frame.specs.Pushed.{with_value};
+ghost use Rattle.ps_frame.specs.declared.value.Value.TheVariants as val;
 ghost use Rattle.ps_reading.specs.Reading.{Reads, ReadsItems};
 ghost use Rattle.ps_document.specs.Json.{list};
-ghost use Rattle.ps_document.specs.Tables.{IsCell};
+ghost use Rattle.ps_document.specs.Tables.{HasCellMore, IsCell};
 ghost use Rattle.ps_document.specs.Words.{kind_word};
 
 use crate::tables::{NamedColumn, table_of};
@@ -26,89 +29,135 @@ use std::alloc::{AllocError, Global};
 #[derive(Drop)]
 pub struct ByToken;
 
-/// The cell that is one token, in a column of a kind.
+/// Puts the cell that is one token at the end of a column of a kind, if it is such a cell.
 ///
 /// Fails only for want of memory.
-fn cell_of(alloc: Global, dtype: DataType, token: Token<'_>) -> Result<Option<Value>, AllocError>
-    ensures { IfOk result (λ o. IfSome o (λ v. (d : Data) × IsCell dtype v d × ((ts : List SpecToken) → Reads 0 (token_of token.entry ∷ ts) d ts))) }
+fn push_token(
+    alloc: Global,
+    dtype: DataType,
+    token: Token<'_>,
+    builder: &mut ColumnBuilder,
+) -> Result<bool, AllocError>
+    requires { builder.old.kind ≡ dtype }
+    ensures { IfOk result (λ told. OnTrue told ((d : Data) × HasCellMore d builder.old builder.new × ((ts : List SpecToken) → Reads 0 (token_of token.entry ∷ ts) d ts))) }
 {
     match token {
-        Token::Null => Ok(Some(Value::Null)),
+        Token::Null => {
+            push_value(alloc, Value::Null, builder)?;
+            Ok(true)
+        }
         Token::Number(text) => {
-            // By `let`-`else`, so that the proof cites the value by its name.
-            let Some(cell) = number_cell(dtype, text) else {
-                return Ok(None);
-            };
-            Ok(Some(cell))
+            let told = push_number(alloc, dtype, text, builder)?;
+            Ok(told)
         }
         Token::Bool(b) => {
             let DataType::Boolean = dtype else {
-                return Ok(None);
+                return Ok(false);
             };
-            Ok(Some(Value::Boolean(b)))
+            push_value(alloc, Value::Boolean(b), builder)?;
+            Ok(true)
         }
         Token::String(text) => {
             let DataType::String = dtype else {
-                return Ok(None);
+                return Ok(false);
             };
-            // The only error is want of memory; `map_err` would hide the value in a closure.
-            match PlSmallStr::from_str(alloc, text) {
-                Ok(text) => Ok(Some(Value::String(text))),
-                Err(_) => Err(AllocError),
-            }
+            push_text(alloc, text, builder)?;
+            Ok(true)
         }
-        _ => Ok(None),
+        _ => Ok(false),
     }
 }
 
-/// The cell that a number is, in a column of a kind.
-fn number_cell(dtype: DataType, text: &str) -> Option<Value>
-    ensures { IfSome result (λ v. (n : Num) × (number_of text.now ≡ Some n) × IsCell dtype v (number n)) }
+/// Puts the cell that a number is at the end of a column of a kind, if it is such a cell.
+fn push_number(
+    alloc: Global,
+    dtype: DataType,
+    text: &str,
+    builder: &mut ColumnBuilder,
+) -> Result<bool, AllocError>
+    requires { builder.old.kind ≡ dtype }
+    ensures { IfOk result (λ told. OnTrue told ((n : Num) × (number_of text.now ≡ Some n) × HasCellMore (number n) builder.old builder.new)) }
 {
     match dtype {
-        DataType::Int64 => whole_number_cell(text),
-        DataType::IdxSize => row_number_cell(text),
-        _ => None,
+        DataType::Int64 => push_whole_number(alloc, text, builder),
+        DataType::IdxSize => push_row_number(alloc, text, builder),
+        _ => Ok(false),
     }
 }
 
-fn whole_number_cell(text: &str) -> Option<Value>
-    ensures { IfSome result (λ v. (n : Num) × (number_of text.now ≡ Some n) × IsCell DataType.Int64 v (number n)) }
+fn push_whole_number(
+    alloc: Global,
+    text: &str,
+    builder: &mut ColumnBuilder,
+) -> Result<bool, AllocError>
+    requires { builder.old.kind ≡ DataType.Int64 }
+    ensures { IfOk result (λ told. OnTrue told ((n : Num) × (number_of text.now ≡ Some n) × HasCellMore (number n) builder.old builder.new)) }
 {
-    let Some(z) = whole_number_of(text) else {
-        return None;
+    let Some(number) = whole_number_of(text) else {
+        return Ok(false);
     };
-    Some(Value::Int64(z))
+    match builder.push_number(alloc, number) {
+        Ok(()) => Ok(true),
+        // A number is of the kind, so this is want of memory.
+        Err(_) => Err(AllocError),
+    }
 }
 
-fn row_number_cell(text: &str) -> Option<Value>
-    ensures { IfSome result (λ v. (n : Num) × (number_of text.now ≡ Some n) × IsCell DataType.IdxSize v (number n)) }
+fn push_row_number(
+    alloc: Global,
+    text: &str,
+    builder: &mut ColumnBuilder,
+) -> Result<bool, AllocError>
+    requires { builder.old.kind ≡ DataType.IdxSize }
+    ensures { IfOk result (λ told. OnTrue told ((n : Num) × (number_of text.now ≡ Some n) × HasCellMore (number n) builder.old builder.new)) }
 {
     match count_of(text) {
-        Some(n) if n <= u32::MAX as u64 => Some(Value::IdxSize(n as u32)),
-        _ => None,
+        Some(n) if n <= u32::MAX as u64 => {
+            push_value(alloc, Value::IdxSize(n as u32), builder)?;
+            Ok(true)
+        }
+        _ => Ok(false),
     }
 }
 
-/// The cell that comes first, in a column of a kind.
+fn push_text(alloc: Global, text: &str, builder: &mut ColumnBuilder) -> Result<(), AllocError>
+    ensures { OnOk result (builder.new ≡ with_value builder.old (val.String text.now)) }
+{
+    match builder.push_text(alloc, text) {
+        Ok(()) => Ok(()),
+        // A text is of the kind, so this is want of memory.
+        Err(_) => Err(AllocError),
+    }
+}
+
+fn push_value(alloc: Global, value: Value, builder: &mut ColumnBuilder) -> Result<(), AllocError>
+    ensures { OnOk result (builder.new ≡ with_value builder.old value) }
+{
+    match builder.push(alloc, value) {
+        Ok(()) => Ok(()),
+        // Values of the kind are refused for want of memory alone.
+        Err(_) => Err(AllocError),
+    }
+}
+
+/// Puts the cell that comes first at the end of a column of a kind, if such a cell is told from the
+/// tokens; else where the reader then stands isn't said.
 ///
-/// `None` where no such cell is told from the tokens; where the reader then stands isn't said.
 /// Fails only for want of memory.
-fn read_cell(
+fn push_cell(
     alloc: Global,
     dtype: DataType,
     reader: &mut Reader<'_>,
-) -> Result<Option<Value>, AllocError>
-    ensures { IfOk result (λ o. IfSome o (λ v. (d : Data) × IsCell dtype v d × Reads 0 reader.old d reader.new)) }
+    builder: &mut ColumnBuilder,
+) -> Result<bool, AllocError>
+    requires { builder.old.kind ≡ dtype }
+    ensures { IfOk result (λ told. OnTrue told ((d : Data) × HasCellMore d builder.old builder.new × Reads 0 reader.old d reader.new)) }
 {
     let Some(token) = reader.next() else {
-        return Ok(None);
+        return Ok(false);
     };
-    // By `let`-`else`, so that the proof cites the value by its name.
-    let Some(cell) = cell_of(alloc, dtype, token)? else {
-        return Ok(None);
-    };
-    Ok(Some(cell))
+    let told = push_token(alloc, dtype, token, builder)?;
+    Ok(told)
 }
 
 /// The column of a kind whose cells an array holds.
@@ -133,7 +182,7 @@ fn read_column(
     Ok(Some(column))
 }
 
-// The column of the cells up to the bracket that closes their array. Each is pushed as it is read.
+// The column of the cells up to the bracket that closes their array. Each is put in as it is read.
 fn read_cells(
     alloc: Global,
     dtype: DataType,
@@ -144,13 +193,9 @@ fn read_cells(
 {
     let mut builder = ColumnBuilder::new(alloc, dtype);
     'cells: while !reader.take_end_array() {
-        let Some(cell) = read_cell(alloc, dtype, reader)? else {
+        let told = push_cell(alloc, dtype, reader, &mut builder)?;
+        if !told {
             return Ok(None);
-        };
-        // Each value is of the kind, so the only error is want of memory.
-        match builder.push(alloc, cell) {
-            Ok(()) => {}
-            Err(_) => return Err(AllocError),
         }
     }
     // The only error is want of memory; `map_err` would hide the value in a closure.

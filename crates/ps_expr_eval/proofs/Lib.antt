@@ -3,6 +3,7 @@ pub mod AtPlaces
 pub mod Evaluating
 pub mod KeptRows
 pub mod LaneRows
+pub mod Operated
 pub mod Operators
 pub mod Parts
 pub mod Standing

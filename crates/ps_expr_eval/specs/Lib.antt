@@ -5,3 +5,4 @@ pub mod Cellwise
 pub mod Wholes
 pub mod Evaluations
 pub mod Lanes
+pub mod Operands

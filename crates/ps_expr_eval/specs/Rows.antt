@@ -22,10 +22,10 @@ abbrev pub seen : Result (Bor Value) DataFault → Held
 seen (Ok v) = held.Val v.now
 seen (Err f) = held.Bad f
 
--- cells that repeat, or are there for n rows
-abbrev pub FillsRows : List Held → Bool → ℕ → Type 0
-FillsRows hs true n = length hs ≡ 1
-FillsRows hs false n = n ≤ length hs
+-- cells or values that repeat, or are there for n rows
+abbrev pub FillsRows : {A : Type 0} → List A → Bool → ℕ → Type 0
+FillsRows xs true n = length xs ≡ 1
+FillsRows xs false n = n ≤ length xs
 
 -- whether a column's only cell stands in each row
 abbrev pub repeats : ComputedColumn → Bool

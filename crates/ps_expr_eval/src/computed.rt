@@ -1,5 +1,5 @@
 // The column of an expression while it is computed.
-ghost use Rattle.std.specs.Prelude.{◌≡◌, ◌<◌, drop, take, ◌++◌, ◌∷◌, [], length, get_or, map, option_copied, slice_get, IfOk, IsTrue, OnOk, MatchResult, Some, None};
+ghost use Rattle.std.specs.Prelude.{◌≡◌, ◌<◌, drop, take, ◌++◌, ◌∷◌, [], length, get_or, map, option_copied, slice_get, IfOk, IfSome, IsTrue, OnOk, MatchResult, Some, None};
 ghost use Rattle.ps_expr_eval.specs.Held.{Keeps, Settles, cell_at, cells_of, ending_of, first_bad, first_fault, held_values, values_of};
 ghost use Rattle.ps_expr_eval.specs.Rows.{repeats as repeats_in, seen as seen_cell};
 ghost use Rattle.ps_frame.specs.Causes.{whole_column};
@@ -12,6 +12,7 @@ use crate::lengths::Ending;
 use ps_compute::values::ValueList;
 use ps_frame::column::Column;
 use ps_frame::value::{Cell, DataFault, DataType, Value};
+use ps_frame::view::ColumnView;
 use std::alloc::{AllocError, Global};
 
 /// Values: those of a column, which are shared, or some of their own.
@@ -230,6 +231,17 @@ impl Cells {
         match self {
             Cells::Whole(values) => as_cells(alloc, values.into_vec(alloc)?),
             Cells::Mixed(cells) => Ok(cells),
+        }
+    }
+
+    /// The values, where no cell is faulty and they lie in one run.
+    pub fn view(&self) -> Option<ColumnView<'_>>
+        ensures { IfSome result (λ values. cells_of self.now ≡ map held.Val values) }
+    {
+        match self {
+            Cells::Whole(Values::Shared(column)) => column.view(),
+            Cells::Whole(Values::Owned(values)) => Some(ColumnView::of_slice(values.as_slice())),
+            Cells::Mixed(_) => None,
         }
     }
 

@@ -1,14 +1,17 @@
 // Operators that go cell by cell over their operands side by side.
-ghost use Rattle.std.specs.Prelude.{◌≡◌, ◌+◌, ◌∷◌, [], IfOk, if◌then◌else◌};
+ghost use Rattle.std.specs.Prelude.{◌≡◌, ◌+◌, ◌∷◌, [], IfOk, if◌then◌else◌, map};
 ghost use Rattle.ps_expr_eval.specs.Cellwise.{IsCellwise, binary_row, cast_held, result_kind, ternary_row, unary_kind, unary_row};
 ghost use Rattle.ps_expr_eval.specs.Held.{cells_of};
 ghost use Rattle.ps_expr_eval.specs.Rows.{FillsRows, cell_for, cell_from, cells_from, repeats as repeats_in, seen};
+ghost use Rattle.ps_expr_eval.specs.Operands.{values_from};
 ghost use Rattle.ps_frame.specs.Operators.{cast_value};
 ghost use Rattle.ps_frame.specs.Typing.{compares as compares_values};
+ghost use Rattle.ps_frame.specs.declared.value.Cell.TheVariants as held;
 
-use crate::computed::{Cells, ComputedColumn, copy_of};
+use crate::computed::{Cells, ComputedColumn, Values, copy_of};
 use crate::growing::Growing;
 use crate::lengths::{count_rows, early_fault};
+use crate::operand::Operand;
 use ps_compute::casts::cast;
 use ps_compute::operators::{binary, choose, is_null, negate};
 use ps_frame::expr::Operator;
@@ -98,6 +101,26 @@ fn binary_cells(
     requires right { FillsRows (cells_of right.now.cells) (repeats_in right.now) rows }
     ensures { IfOk result (λ cells. cells_of cells ≡ cells_from (binary_row op) (left.now ∷ right.now ∷ []) rows) }
 {
+    let (Some(a), Some(b)) = (Operand::of(left), Operand::of(right)) else {
+        return cell_by_cell(alloc, op, dtype, left, right, rows);
+    };
+    let cells = value_by_value(alloc, op, dtype, &a, &b, rows)?;
+    Ok(cells)
+}
+
+// What an operator gives of columns any of whose cells may be faulty.
+fn cell_by_cell(
+    alloc: Global,
+    op: Operator,
+    dtype: DataType,
+    left: &ComputedColumn,
+    right: &ComputedColumn,
+    rows: usize,
+) -> Result<Cells, AllocError>
+    requires left { FillsRows (cells_of left.now.cells) (repeats_in left.now) rows }
+    requires right { FillsRows (cells_of right.now.cells) (repeats_in right.now) rows }
+    ensures { IfOk result (λ cells. cells_of cells ≡ cells_from (binary_row op) (left.now ∷ right.now ∷ []) rows) }
+{
     let left_repeats = left.repeats();
     let right_repeats = right.repeats();
     let mut cells = if computes(op) {
@@ -109,6 +132,66 @@ fn binary_cells(
         let a = cell_in_row(&left.cells, left_repeats, i);
         let b = cell_in_row(&right.cells, right_repeats, i);
         cells.push(alloc, binary_cell(op, a, b))?;
+    }
+    cells.finish(alloc)
+}
+
+// What an operator gives of values, without a cell for each.
+fn value_by_value(
+    alloc: Global,
+    op: Operator,
+    dtype: DataType,
+    left: &Operand<'_>,
+    right: &Operand<'_>,
+    rows: usize,
+) -> Result<Cells, AllocError>
+    requires left { FillsRows left.now.values left.now.repeats rows }
+    requires right { FillsRows right.now.values right.now.repeats rows }
+    ensures { IfOk result (λ cells. cells_of cells ≡ map held.Val (values_from op left.now right.now rows)) }
+{
+    if computes(op) {
+        let values = many_results(alloc, op, left, right, rows)?;
+        Ok(Cells::Whole(Values::Owned(values)))
+    } else {
+        few_results(alloc, op, dtype, left, right, rows)
+    }
+}
+
+// Results most of which are likely to differ.
+fn many_results(
+    alloc: Global,
+    op: Operator,
+    left: &Operand<'_>,
+    right: &Operand<'_>,
+    rows: usize,
+) -> Result<Vec<Value>, AllocError>
+    requires left { FillsRows left.now.values left.now.repeats rows }
+    requires right { FillsRows right.now.values right.now.repeats rows }
+    ensures { IfOk result (λ values. values.items ≡ values_from op left.now right.now rows) }
+{
+    let mut values = Vec::with_capacity(alloc, rows)?;
+    for i in 0..rows {
+        values.push(binary(op, left.value(i), right.value(i)))?;
+    }
+    Ok(values)
+}
+
+// Results of which few are likely to differ.
+fn few_results(
+    alloc: Global,
+    op: Operator,
+    dtype: DataType,
+    left: &Operand<'_>,
+    right: &Operand<'_>,
+    rows: usize,
+) -> Result<Cells, AllocError>
+    requires left { FillsRows left.now.values left.now.repeats rows }
+    requires right { FillsRows right.now.values right.now.repeats rows }
+    ensures { IfOk result (λ cells. cells_of cells ≡ map held.Val (values_from op left.now right.now rows)) }
+{
+    let mut cells = Growing::of_few(alloc, dtype);
+    for i in 0..rows {
+        cells.push_value(alloc, binary(op, left.value(i), right.value(i)))?;
     }
     cells.finish(alloc)
 }

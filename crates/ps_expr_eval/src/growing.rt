@@ -47,7 +47,8 @@ impl Growing {
         }
     }
 
-    fn push_value(&mut self, alloc: Global, value: Value) -> Result<(), AllocError>
+    /// Adds a value at the end. Fails only for want of memory.
+    pub fn push_value(&mut self, alloc: Global, value: Value) -> Result<(), AllocError>
         ensures { OnOk result (cells_grown self.new ≡ cells_grown self.old ++ held.Val value ∷ []) }
     {
         if !self.takes(&value) {

@@ -8,6 +8,7 @@ pub mod evaluate;
 pub mod filter;
 mod growing;
 pub mod lengths;
+mod operand;
 mod picked_cells;
 pub mod sort_by;
 pub mod sources;

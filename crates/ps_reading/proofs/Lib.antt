@@ -1,3 +1,4 @@
+pub mod Digits
 pub mod Grown
 pub mod Numerals
 pub mod Rules

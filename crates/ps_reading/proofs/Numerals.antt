@@ -1,5 +1,5 @@
 -- Which numeral tells the number of a text.
-use Rattle.std.proofs.Common.{◌≡◌, ◌-◌, ℕ, ◌==◌, List, length, take, drop, Option, Some, None, Bool, true, false, ap, subst, sym, ◌∙◌, slice_index, arith, rules, take_all, length-drop}
+use Rattle.std.proofs.Common.{◌≡◌, ◌-◌, ℕ, ◌==◌, List, length, take, drop, Option, Some, None, true, false, ap, subst, sym, ◌∙◌, slice_index, arith, rules, take_all, length-drop}
 use Rattle.std.specs.Prelude.{IfNone, IfSome}
 use Rattle.fast_float.specs.Text.{Parts, scan}
 use Rattle.serde_json.specs.Data.{Num, unsigned}
@@ -9,7 +9,7 @@ number_of-minus : (s : List ℕ) → true ≡ (slice_index s 0 == 45) → number
 unfolding number_of
 number_of-minus s e = rw (← e)
 
-number_of-no_minus : (s : List ℕ) → false ≡ (slice_index s 0 == 45) → number_of s ≡ number_from false (scan s)
+pub number_of-no_minus : (s : List ℕ) → false ≡ (slice_index s 0 == 45) → number_of s ≡ number_from false (scan s)
 unfolding number_of
 number_of-no_minus s e = rw (← e)
 

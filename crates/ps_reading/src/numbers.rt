@@ -1,5 +1,5 @@
 // The numbers that tokens write.
-ghost use Rattle.std.specs.Prelude.{◌≡◌, ◌≢◌, ◌<◌, ℕ, ℤ, Some, IsTrue, true, false, ◌==◌, length, slice_index, IfNone, IfSome, FitsSigned};
+ghost use Rattle.std.specs.Prelude.{◌≡◌, ◌≢◌, ◌<◌, ◌^◌, ℕ, ℤ, Some, IsTrue, true, false, ◌==◌, length, slice_index, IfNone, IfSome, FitsSigned};
 ghost use Rattle.std.specs.Int.{w64};
 ghost use Rattle.serde_json.specs.Data.{unsigned};
 ghost use Rattle.serde_json.specs.Find.{of_integer};
@@ -7,12 +7,18 @@ ghost use Rattle.serde_json.specs.Read.{number_from, number_of};
 
 use fast_float::Numeral;
 
+// So many digits write a number that 64 bits hold, with a sign too.
+const SHORT: usize = 18;
+
 /// The number of 64 bits that a text writes, where it writes one that isn't below 0.
 pub fn count_of(text: &str) -> Option<u64>
     ensures some { IfSome result (λ n. number_of text.now ≡ Some (unsigned n)) }
     ensures none { IfNone result ((n : ℕ) → number_of text.now ≢ Some (unsigned n)) }
 {
     let bytes = text.as_bytes();
+    if let Some(n) = short_count_of(bytes) {
+        return Some(n);
+    }
     if has_minus(bytes) {
         None
     } else {
@@ -34,6 +40,9 @@ pub fn whole_number_of(text: &str) -> Option<i64>
     ensures none { IfNone result ((z : ℤ) → FitsSigned w64 z → number_of text.now ≢ Some (of_integer z)) }
 {
     let bytes = text.as_bytes();
+    if let Some(n) = short_count_of(bytes) {
+        return Some(n as i64);
+    }
     if has_minus(bytes) {
         negative_of(&Numeral::scan(&bytes[1..]))
     } else {
@@ -61,6 +70,24 @@ fn negative_of(numeral: &Numeral<'_>) -> Option<i64>
         Some(z) if z < 0 => Some(z),
         _ => None,
     }
+}
+
+// The number that a few digits write: most numbers are such, and this is their short way.
+fn short_count_of(bytes: &[u8]) -> Option<u64>
+    ensures some { IfSome result (λ n. number_of bytes.now ≡ Some (unsigned n)) }
+    ensures small { IfSome result (λ n. n < 10 ^ 18) }
+{
+    if bytes.is_empty() || bytes.len() > SHORT {
+        return None;
+    }
+    let mut number = 0u64;
+    for byte in bytes {
+        if !byte.is_ascii_digit() {
+            return None;
+        }
+        number = number * 10 + u64::from(*byte - b'0');
+    }
+    Some(number)
 }
 
 fn has_minus(bytes: &[u8]) -> bool

@@ -1,5 +1,5 @@
 // The CSV text of a table.
-ghost use Rattle.std.specs.Prelude.{◌≡◌, ◌==◌, ◌&&◌, ◌<◌, ◌≤◌, ◌++◌, ◌∷◌, [], if◌then◌else◌, nat_lt, map, flat_map, length, IfOk, OnOk, OnErr, Err};
+ghost use Rattle.std.specs.Prelude.{◌≡◌, ◌==◌, ◌&&◌, ◌<◌, ◌≤◌, ◌++◌, ◌∷◌, [], false, if◌then◌else◌, nat_lt, map, flat_map, length, IfOk, OnOk, OnErr, Err};
 ghost use Rattle.std.specs.List.{list_any};
 ghost use Rattle.csv.specs.Writing.{default_writer, escaped, field_text, needs_byte, needs_quotes, next_sep, quoted, row_text};
 ghost use Rattle.ps_frame.specs.Csv.{csv_text_of, value_text};
@@ -91,10 +91,10 @@ fn put_value(text: &mut Vec<u8>, value: &Value) -> Result<(), AllocError>
 {
     match value {
         Value::Null => Ok(()),
-        Value::Boolean(true) => put_field(text, b"true"),
-        Value::Boolean(false) => put_field(text, b"false"),
-        Value::Int64(number) => put_field(text, Buffer::new().format(*number).as_bytes()),
-        Value::IdxSize(number) => put_field(text, Buffer::new().format(*number).as_bytes()),
+        Value::Boolean(true) => put_plain(text, b"true"),
+        Value::Boolean(false) => put_plain(text, b"false"),
+        Value::Int64(number) => put_plain(text, Buffer::new().format(*number).as_bytes()),
+        Value::IdxSize(number) => put_plain(text, Buffer::new().format(*number).as_bytes()),
         Value::String(name) => put_field(text, name.as_str().as_bytes()),
     }
 }
@@ -103,10 +103,18 @@ fn put_field(text: &mut Vec<u8>, field: &[u8]) -> Result<(), AllocError>
     ensures { OnOk result (text.new.items ≡ text.old.items ++ field_text default_writer field.now) }
 {
     if is_quoted(field) {
-        put_quoted(text, field)?;
+        put_quoted(text, field)
     } else {
-        text.extend_from_slice(field)?;
+        put_plain(text, field)
     }
+}
+
+// A field that needs no quotes, as that of a number.
+fn put_plain(text: &mut Vec<u8>, field: &[u8]) -> Result<(), AllocError>
+    requires { needs_quotes default_writer field.now ≡ false }
+    ensures { OnOk result (text.new.items ≡ text.old.items ++ field_text default_writer field.now) }
+{
+    text.extend_from_slice(field)?;
     Ok(())
 }
 
