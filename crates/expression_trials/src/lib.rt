@@ -8,4 +8,6 @@ mod evaluation;
 #[cfg(test)]
 mod kinds;
 #[cfg(test)]
+mod operands;
+#[cfg(test)]
 mod operators;

@@ -4,3 +4,4 @@ mod RowsTested
 mod GroupsTested
 mod JoinsTested
 mod MapsTested
+mod EntriesTested

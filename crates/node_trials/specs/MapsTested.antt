@@ -3,7 +3,7 @@ use Rattle.std.specs.Prelude.{List, [], ◌∷◌, codes, None, take, true}
 use Rattle.std.specs.List.{AllByRecursion}
 use Rattle.pu_base.specs.declared.arena.Node.{Node}
 use Rattle.ps_frame.specs.Tables.{Frame, Row}
-use Rattle.ps_meaning.specs.Steps.{Name}
+use Rattle.ps_meaning.specs.Steps.{Cut, Name}
 use Rattle.ps_meaning.specs.declared.options.ExprIR.{ExprIR}
 use Rattle.ps_meaning.specs.declared.options.FunctionIR.TheVariants as call
 use Rattle.ps_plan.specs.declared.ir.IR.{IR}
@@ -28,8 +28,8 @@ tested_exprs n name = record { node = n; output_name = output.Alias name } ∷ [
 abbrev pub tested_select : MapKind
 tested_select = kind.Select (tested_exprs (record { 0 = 1 }) (codes "x"))
 
-abbrev pub tested_sort : MapKind
-tested_sort = kind.Sort (tested_exprs (record { 0 = 0 }) (codes "a")) None (record { descending = true ∷ []; nulls_last = true ∷ [] })
+abbrev pub tested_sort : Cut → MapKind
+tested_sort cut = kind.Sort (tested_exprs (record { 0 = 0 }) (codes "a")) cut (record { descending = true ∷ []; nulls_last = true ∷ [] })
 
 abbrev pub tested_groups : MapKind
 tested_groups = kind.GroupBy (tested_exprs (record { 0 = 0 }) (codes "a")) (tested_exprs (record { 0 = 1 }) (codes "x")) true None

@@ -89,13 +89,13 @@ pub fn select(alloc: Global) -> Result<MapKind, Fail>
     Ok(MapKind::Select(named(alloc, Node(1), "x")?))
 }
 
-/// The rows from the greatest a down, and null last.
-pub fn sort(alloc: Global) -> Result<MapKind, Fail>
-    ensures { IfOk result (λ kind. kind ≡ tested_sort) }
+/// The rows from the greatest a down, and null last; a slice of these.
+pub fn sort(alloc: Global, slice: Option<(i64, usize)>) -> Result<MapKind, Fail>
+    ensures { IfOk result (λ kind. kind ≡ tested_sort slice) }
 {
     Ok(MapKind::Sort {
         by_column: named(alloc, Node(0), "a")?,
-        slice: None,
+        slice,
         sort_options: SortMultipleOptions {
             descending: Items::new(vec![in alloc; true]?),
             nulls_last: Items::new(vec![in alloc; true]?),
@@ -269,7 +269,9 @@ fn a_select(rt: HostRuntime) -> Result<(), Fail> {
 fn a_sort(rt: HostRuntime) -> Result<(), Fail> {
     let alloc = rt.alloc();
     let numbers = [Some(3), Some(3), Some(1), None];
-    assert!(rt; gives(alloc, sort(alloc)?, &Same, &numbers)?);
+    assert!(rt; gives(alloc, sort(alloc, None)?, &Same, &numbers)?);
+    let cut = sort(alloc, Some((-3, 2)))?;
+    assert!(rt; gives(alloc, cut, &Same, &[Some(3), Some(1)])?);
     Ok(())
 }
 

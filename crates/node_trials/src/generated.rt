@@ -31,6 +31,12 @@ impl Numbers {
         self.below(2) == 1
     }
 
+    /// An offset from -9 to 9.
+    pub fn offset(&mut self) -> i64 {
+        let number = i64::try_from(self.below(19)).unwrap_or(0);
+        number.saturating_sub(9)
+    }
+
     /// A number from 1 up, or null.
     fn number_or_null(&mut self, bound: u64) -> Option<i64> {
         match self.below(bound) {

@@ -5,6 +5,8 @@
 #[cfg(test)]
 mod compared;
 #[cfg(test)]
+mod entries;
+#[cfg(test)]
 mod evaluated;
 #[cfg(test)]
 mod fixtures;
@@ -34,6 +36,8 @@ mod trial;
 mod validated;
 #[cfg(test)]
 mod whole_tables;
+#[cfg(test)]
+mod wide;
 #[cfg(test)]
 mod worked;
 #[cfg(test)]

@@ -74,7 +74,9 @@ fn a_map_that_selects(rt: HostRuntime) -> Result<(), Fail> {
 fn a_map_that_sorts(rt: HostRuntime) -> Result<(), Fail> {
     let alloc = rt.alloc();
     let numbers = [Some(3), Some(3), Some(1), None];
-    assert!(rt; gives(alloc, &sort(alloc)?, &Same, &numbers)?);
+    assert!(rt; gives(alloc, &sort(alloc, None)?, &Same, &numbers)?);
+    let cut = sort(alloc, Some((-3, 2)))?;
+    assert!(rt; gives(alloc, &cut, &Same, &[Some(3), Some(1)])?);
     Ok(())
 }
 

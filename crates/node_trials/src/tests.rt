@@ -18,6 +18,14 @@ const NO_RIGHT: &str = r#"[["k","int",[]],["b","int",[]]]"#;
 
 const NO_CELLS: &str = r#"[["c","int",[]]]"#;
 
+const KEYS_3_1: &str = r#"[["k","int",[3,1]]]"#;
+
+const XYZ_AT_4_1_1: &str = r#"[["k","int",[4,1,1]],["v","str",["x","y","z"]]]"#;
+
+const XYZ_AT_1_2_2: &str = r#"[["k","int",[1,2,2]],["v","str",["x","y","z"]]]"#;
+
+const XY_AT_4_1: &str = r#"[["k","int",[4,1]],["v","str",["x","y"]]]"#;
+
 #[test]
 fn rows_are_taken_as_they_are(rt: HostRuntime) -> Result<(), Fail> {
     let alloc = rt.alloc();
@@ -48,6 +56,50 @@ fn rows_are_taken_as_they_are(rt: HostRuntime) -> Result<(), Fail> {
         ),
     ] {
         let text = run(alloc, &[NUMBERS], exprs, &[node])?;
+        assert_eq!(rt; text.as_str(), wanted, "at {node}");
+    }
+    Ok(())
+}
+
+// Over a = 1, 2, 3: from an offset below 0 on, both ends clipped to the rows that there are.
+#[test]
+fn slices_count_from_the_end(rt: HostRuntime) -> Result<(), Fail> {
+    let alloc = rt.alloc();
+    for (node, wanted) in [
+        (r#"["slice",0,-2,1]"#, "a\n2"),
+        (r#"["slice",0,-1,2]"#, "a\n3"),
+        (r#"["slice",0,-3,3]"#, "a\n1\n2\n3"),
+        (r#"["slice",0,-5,3]"#, "a\n1"),
+        (r#"["slice",0,-5,1]"#, "a"),
+        (r#"["slice",0,-1,0]"#, "a"),
+        (r#"["slice",0,-9223372036854775808,2]"#, "a"),
+        (
+            r#"["slice",0,-9223372036854775808,18446744073709551615]"#,
+            "a\n1\n2\n3",
+        ),
+        (r#"["slice",1,-1,1]"#, "a"),
+        (r#"["sort",0,[0],[true],[false],[-1,1]]"#, "a\n1"),
+        (r#"["union",[0,0],[-4,2]]"#, "a\n3\n1"),
+        (
+            r#"["group_by",0,[["k",0]],[["n",1]],true,[-2,1]]"#,
+            "k,n\n2,1",
+        ),
+        (r#"["distinct",0,null,true,"last",[-2,5]]"#, "a\n2\n3"),
+        (
+            r#"["join",0,0,"inner",[0],[0],null,false,"m:m",[-2,1]]"#,
+            "a\n2",
+        ),
+        (
+            r#"["join",0,0,"cross",[],[],null,false,"m:m",[-4,2]]"#,
+            "a,a_right\n2,3\n3,1",
+        ),
+    ] {
+        let text = run(
+            alloc,
+            &[r#"[["a","int",[1,2,3]]]"#, r#"[["a","int",[]]]"#],
+            r#"["col","a"],["len"]"#,
+            &[node],
+        )?;
         assert_eq!(rt; text.as_str(), wanted, "at {node}");
     }
     Ok(())
@@ -185,12 +237,10 @@ fn groups_add_up_each_kind(rt: HostRuntime) -> Result<(), Fail> {
     Ok(())
 }
 
-// The first four kinds of join may give their rows in any order, so these are sorted.
 #[test]
 fn joins_match_equal_keys(rt: HostRuntime) -> Result<(), Fail> {
     let alloc = rt.alloc();
-    let exprs = r#"["col","k"],["col","a"],["col","b"]"#;
-    let order = r#"["sort",2,[1,2],[false],[true],null]"#;
+    let exprs = r#"["col","k"]"#;
     for (join, wanted) in [
         (
             r#"["join",0,1,"inner",[0],[0],null,false,"m:m",null]"#,
@@ -224,11 +274,6 @@ fn joins_match_equal_keys(rt: HostRuntime) -> Result<(), Fail> {
             r#"["join",0,1,"full",[0],[0],null,true,"m:m",null]"#,
             "k,a,k_right,b\n1,10,1,5\n1,10,1,8\n1,20,1,5\n1,20,1,8\n,30,,6\n3,40,,\n,,4,7",
         ),
-    ] {
-        let text = run(alloc, &[LEFT, RIGHT], exprs, &[join, order])?;
-        assert_eq!(rt; text.as_str(), wanted, "at {join}");
-    }
-    for (join, wanted) in [
         (
             r#"["join",0,1,"semi",[0],[0],null,false,"m:m",null]"#,
             "k,a\n1,10\n1,20",
@@ -252,6 +297,61 @@ fn joins_match_equal_keys(rt: HostRuntime) -> Result<(), Fail> {
     ] {
         let text = run(alloc, &[LEFT, RIGHT], exprs, &[join])?;
         assert_eq!(rt; text.as_str(), wanted, "at {join}");
+    }
+    Ok(())
+}
+
+// Pairs go by the left row and then by the right one. An unmatched left row stands in its place, and unmatched right rows
+// come last.
+#[test]
+fn joins_keep_the_order_of_their_rows(rt: HostRuntime) -> Result<(), Fail> {
+    let alloc = rt.alloc();
+    for (left, right, join, wanted) in [
+        (
+            KEYS_3_1,
+            XYZ_AT_4_1_1,
+            r#"["join",0,1,"inner",[0],[0],null,false,"m:m",null]"#,
+            "k,v\n1,y\n1,z",
+        ),
+        (
+            KEYS_3_1,
+            XYZ_AT_4_1_1,
+            r#"["join",0,1,"left",[0],[0],null,false,"m:m",null]"#,
+            "k,v\n3,\n1,y\n1,z",
+        ),
+        (
+            KEYS_3_1,
+            XYZ_AT_4_1_1,
+            r#"["join",0,1,"right",[0],[0],null,false,"m:m",null]"#,
+            "k,v\n1,y\n1,z\n4,x",
+        ),
+        (
+            KEYS_3_1,
+            XYZ_AT_4_1_1,
+            r#"["join",0,1,"full",[0],[0],null,false,"m:m",null]"#,
+            "k,k_right,v\n3,,\n1,1,y\n1,1,z\n,4,x",
+        ),
+        (
+            r#"[["k","int",[2,1,2,3]]]"#,
+            XYZ_AT_1_2_2,
+            r#"["join",0,1,"left",[0],[0],null,false,"m:m",null]"#,
+            "k,v\n2,y\n2,z\n1,x\n2,y\n2,z\n3,",
+        ),
+        (
+            r#"[["k","int",[1,3]]]"#,
+            XY_AT_4_1,
+            r#"["join",0,1,"full",[0],[0],null,false,"m:m",null]"#,
+            "k,k_right,v\n1,1,y\n3,,\n,4,x",
+        ),
+        (
+            r#"[["k","int",[1,3]]]"#,
+            XY_AT_4_1,
+            r#"["join",0,1,"right",[0],[0],null,false,"m:m",null]"#,
+            "k,v\n1,y\n4,x",
+        ),
+    ] {
+        let text = run(alloc, &[left, right], r#"["col","k"]"#, &[join])?;
+        assert_eq!(rt; text.as_str(), wanted, "at {join} of {left} and {right}");
     }
     Ok(())
 }

@@ -137,10 +137,12 @@ fn functions_and_offsets(rt: HostRuntime) -> Result<(), Fail> {
         over_scan(alloc, function(1))?.as_str(),
         "InvalidPlan Shape at 1"
     );
-    assert_eq!(rt;
-        over_scan(alloc, slice(-1))?.as_str(),
-        "Unsupported NegativeOffset at 1"
-    );
+    for offset in [i64::MIN, -1, 0, i64::MAX] {
+        assert_eq!(rt;
+            over_scan(alloc, slice(offset))?.as_str(),
+            "a root at 2 of 3"
+        );
+    }
     Ok(())
 }
 

@@ -49,6 +49,7 @@ fn plans_over_one_table(rt: HostRuntime) -> Result<(), Fail> {
             r#"["hstack",0,[["a",1]]]"#,
             "a\n6\n6\n6",
         ),
+        (A3, "", r#"["slice",0,-1,2]"#, "a\n3"),
         (
             A3,
             r#"["int",1],["len"]"#,
@@ -139,8 +140,7 @@ fn plans_of_several_nodes(rt: HostRuntime) -> Result<(), Fail> {
         let join = format!(in alloc;
             "[\"join\",0,1,\"left\",[0],[0],null,{join_nulls},\"m:m\",null]"
         )?;
-        let order = r#"["sort",2,[0],[false],[true],null]"#;
-        let text = run(alloc, &sides, r#"["col","k"]"#, &[join.as_str(), order])?;
+        let text = run(alloc, &sides, r#"["col","k"]"#, &[join.as_str()])?;
         assert_eq!(rt; text.as_str(), wanted);
     }
     let orders = run(
@@ -186,5 +186,12 @@ fn plans_of_several_nodes(rt: HostRuntime) -> Result<(), Fail> {
         ],
     )?;
     assert_eq!(rt; broken.as_str(), "ComputeError StrictCast at 2");
+    let last = run(
+        alloc,
+        &[r#"[["t","str",["x","1"]]]"#],
+        r#"["col","t"],["cast",0,"int",true]"#,
+        &[r#"["select",0,[["n",1]]]"#, r#"["slice",1,-1,1]"#],
+    )?;
+    assert_eq!(rt; last.as_str(), "ComputeError StrictCast at 1");
     Ok(())
 }

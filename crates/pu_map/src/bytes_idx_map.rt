@@ -99,10 +99,8 @@ impl<V> BytesIndexMap<V> {
         ensures absent { IfNone result (IsAbsent self.now.keys hash key.now) }
         ensures distinct { AreDistinct self.now.keys }
     {
-        match self.table.find(hash, key) {
-            Some(index) => Some(&self.values[index as usize]),
-            None => None,
-        }
+        let index = self.table.find(hash, key)?;
+        Some(&self.values[index as usize])
     }
 
     /// The place of a key under its hash: its entry, or the one that it would get.
@@ -211,6 +209,7 @@ impl<V> BytesIndexMap<V> {
         ensures returned { IfErr result (λ v. v ≡ value) }
         ensures succeeds { 0 < self.old.room → length key.now ≤ self.old.key_room → IsOk result }
     {
+        // By hand: behind the conversion of `?` the proof would lose that this is the very value that came in.
         let index = match self.push(alloc, hash, key, value) {
             Ok(index) => index,
             Err(value) => return Err(value),

@@ -249,10 +249,8 @@ impl<K: Hash + Eq, V> FastFixedCache<K, V> {
         ensures* hits { sem 𝓛 (lends_found K.row V.row self.entry (place_of K.eq self.old.slots (key_hash (K.hash_input key.now)) key.now) result) }
         ensures value { option_copied_mut result ≡ value_at self.old.slots (place_of K.eq self.old.slots (key_hash (K.hash_input key.now)) key.now) }
     {
-        match self.place_of(key) {
-            Some(place) => Some(self.hit(place)),
-            None => None,
-        }
+        let place = self.place_of(key)?;
+        Some(self.hit(place))
     }
 
     /// Puts a value under a key: in its place where it stands, else in the free or the older one of its two slots.
@@ -349,6 +347,7 @@ impl<K: Hash + Eq, V> FastFixedCache<K, V> {
         ensures refused { (e : E) → result ≡ Err (Function e) → (copy : K) × AnswersCopy K.is_clone F.FnOnce f key.now copy (Err e) }
         ensures found { IsSome (place_of K.eq self.old.slots (key_hash (K.hash_input key.now)) key.now) → IsOk result }
     {
+        // By hand: behind the conversion of `?` the proof would lose that this is the very error of the call.
         match self.try_place_with(key, f) {
             Ok(place) => Ok(self.value_mut(place)),
             Err(error) => Err(error),

@@ -131,8 +131,8 @@ fn a_plan_that_is_refused_calls_no_function(rt: HostRuntime) -> Result<(), Fail>
             "Unsupported Mean at 2",
         ),
         (
-            r#"["slice",1,-1,2],["sink",2]"#,
-            "Unsupported NegativeOffset at 2",
+            r#"["sort",1,[],[],[],null],["sink",2]"#,
+            "InvalidPlan Keys at 2",
         ),
         (r#"["hconcat",[0,1]],["sink",2]"#, "Duplicate at 2: a"),
     ] {
@@ -154,6 +154,7 @@ fn each_node_of_an_answered_plan_calls_its_function_once(rt: HostRuntime) -> Res
         (r#"["union",[1,0],null],["sink",2]"#, 1, "a 1 2 3 1 2 3"),
         (r#"["select",1,[["a",0]]],["sink",2]"#, 1, "a 1 2 3"),
         (r#"["slice",1,1,2],["sink",2]"#, 1, "a 2 3"),
+        (r#"["slice",1,-1,2],["sink",2]"#, 1, "a 3"),
         (r#"["hconcat",[1]],["sink",2]"#, 1, "a 1 2 3"),
     ] {
         let seen = serial(alloc, nodes)?;

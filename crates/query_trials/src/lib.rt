@@ -4,6 +4,8 @@
 
 #[cfg(test)]
 mod calls;
+#[cfg(test)]
+mod columns;
 pub mod counting;
 #[cfg(test)]
 mod csv_texts;

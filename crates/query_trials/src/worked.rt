@@ -221,10 +221,117 @@ fn a_slice_from_the_middle(rt: HostRuntime) -> Result<(), Fail> {
 }
 
 #[test]
+fn slices_count_from_the_end(rt: HostRuntime) -> Result<(), Fail> {
+    let rows: [Row; 10] = [
+        (&[A], "", &[r#"["slice",0,-2,1]"#], &[(0, "a\n2\n")]),
+        (&[A], "", &[r#"["slice",0,-1,2]"#], &[(0, "a\n3\n")]),
+        (&[A], "", &[r#"["slice",0,-5,3]"#], &[(0, "a\n1\n")]),
+        (&[A], "", &[r#"["slice",0,-5,1]"#], &[(0, "a\n")]),
+        (&[A], "", &[r#"["slice",0,-1,0]"#], &[(0, "a\n")]),
+        (
+            &[A],
+            "",
+            &[r#"["slice",0,-9223372036854775808,18446744073709551615]"#],
+            &[(0, "a\n1\n2\n3\n")],
+        ),
+        (
+            &[A],
+            r#"["col","a"]"#,
+            &[r#"["sort",0,[0],[true],[false],[-1,1]]"#],
+            &[(0, "a\n1\n")],
+        ),
+        // Where the order isn't maintained, either one stands last.
+        (
+            &[TWICE],
+            "",
+            &[r#"["distinct",0,null,false,"none",[-1,1]]"#],
+            &[(0, "a\n1\n"), (0, "a\n3\n")],
+        ),
+        // The last row of a table that a fault cut short isn't known; for no rows at all it needn't be.
+        (
+            &[TEXT],
+            r#"["col","t"],["cast",0,"int",true]"#,
+            &[r#"["select",0,[["n",1]]]"#, r#"["slice",1,-1,1]"#],
+            &[(5, "ComputeError StrictCast at 1\n")],
+        ),
+        (
+            &[TEXT],
+            r#"["col","t"],["cast",0,"int",true]"#,
+            &[r#"["select",0,[["n",1]]]"#, r#"["slice",1,-1,0]"#],
+            &[(0, "n\n"), (5, "ComputeError StrictCast at 1\n")],
+        ),
+    ];
+    for (tables, exprs, nodes, ends) in rows {
+        let left = run_plan(&rt, tables, exprs, nodes)?;
+        assert!(rt; is_end(&left, ends), "at {exprs}");
+    }
+    Ok(())
+}
+
+// An unmatched left row stands in its place, and unmatched right rows come last, whatever the settings.
+#[test]
+fn joins_keep_the_order_of_their_rows(rt: HostRuntime) -> Result<(), Fail> {
+    let texts = r#"["v","str",["x","y","z"]]"#;
+    let words: [&[&str]; 2] = [
+        &["run", "--workers", "1"],
+        &["run", "--workers", "8", "--rows", "1"],
+    ];
+    for (left_keys, right_keys, how, written) in [
+        ("3,1", "4,1,1", "left", "k,v\n3,\n1,y\n1,z\n"),
+        ("3,1", "4,1,1", "right", "k,v\n1,y\n1,z\n4,x\n"),
+        (
+            "3,1",
+            "4,1,1",
+            "full",
+            "k,k_right,v\n3,,\n1,1,y\n1,1,z\n,4,x\n",
+        ),
+        (
+            "2,1,2,3",
+            "1,2,2",
+            "left",
+            "k,v\n2,y\n2,z\n1,x\n2,y\n2,z\n3,\n",
+        ),
+    ] {
+        let alloc = rt.alloc();
+        let left = format!(in alloc; "[[\"k\",\"int\",[{left_keys}]]]")?;
+        let right = format!(in alloc; "[[\"k\",\"int\",[{right_keys}]],{texts}]")?;
+        let join = format!(in alloc; "[\"join\",0,1,\"{how}\",[0],[0],null,false,\"m:m\",null]")?;
+        let document = document(
+            alloc,
+            &[left.as_str(), right.as_str()],
+            r#"["col","k"]"#,
+            &[join.as_str()],
+        )?;
+        for words in words {
+            let given = Given {
+                words,
+                ..whole(document.as_str())
+            };
+            let left = run(&rt, &given)?;
+            assert!(rt; is_end(&left, &[(0, written)]), "{how} of {left_keys}");
+        }
+    }
+    Ok(())
+}
+
+// The left key faults in the second row. The join gives what the first row gives, and a slice may have enough of that.
+#[test]
+fn a_left_input_that_breaks_gives_its_rows(rt: HostRuntime) -> Result<(), Fail> {
+    let tables = [r#"[["t","str",["1","x"]]]"#, r#"[["k","int",[1]]]"#];
+    let exprs = r#"["col","t"],["cast",0,"int",true],["col","k"]"#;
+    let join = r#"["join",0,1,"inner",[1],[2],null,false,"m:m",null]"#;
+    let fault = (5, "ComputeError StrictCast at 2\n");
+    let first = run_plan(&rt, &tables, exprs, &[join, r#"["slice",2,0,1]"#])?;
+    assert!(rt; is_end(&first, &[(0, "t\n1\n"), fault]));
+    let last = run_plan(&rt, &tables, exprs, &[join, r#"["slice",2,-1,1]"#])?;
+    assert!(rt; is_end(&last, &[fault]));
+    Ok(())
+}
+
+#[test]
 fn tables_are_put_together(rt: HostRuntime) -> Result<(), Fail> {
     let left_keys = r#"[["k","int",[1,null]]]"#;
     let right_keys = r#"[["k","int",[1,null]],["v","str",["x","y"]]]"#;
-    let sorted = r#"["sort",2,[0],[false],[true],null]"#;
     let rows: [Row; 8] = [
         // The shorter table is filled with null.
         (
@@ -243,19 +350,13 @@ fn tables_are_put_together(rt: HostRuntime) -> Result<(), Fail> {
         (
             &[left_keys, right_keys],
             r#"["col","k"]"#,
-            &[
-                r#"["join",0,1,"left",[0],[0],null,false,"m:m",null]"#,
-                sorted,
-            ],
+            &[r#"["join",0,1,"left",[0],[0],null,false,"m:m",null]"#],
             &[(0, "k,v\n1,x\n,\n")],
         ),
         (
             &[left_keys, right_keys],
             r#"["col","k"]"#,
-            &[
-                r#"["join",0,1,"left",[0],[0],null,true,"m:m",null]"#,
-                sorted,
-            ],
+            &[r#"["join",0,1,"left",[0],[0],null,true,"m:m",null]"#],
             &[(0, "k,v\n1,x\n,y\n")],
         ),
         (
@@ -302,7 +403,7 @@ fn tables_are_put_together(rt: HostRuntime) -> Result<(), Fail> {
 
 #[test]
 fn names_and_kinds_that_do_not_fit_are_refused(rt: HostRuntime) -> Result<(), Fail> {
-    let rows: [(&str, &str, &str); 8] = [
+    let rows: [(&str, &str, &str); 7] = [
         (
             r#"["col","z"],["int",1],["gt",0,1]"#,
             r#"["filter",0,2]"#,
@@ -323,11 +424,6 @@ fn names_and_kinds_that_do_not_fit_are_refused(rt: HostRuntime) -> Result<(), Fa
             r#"["left_out","Window"],["int",1],["gt",0,1]"#,
             r#"["filter",0,2]"#,
             "Unsupported Window at 1\n",
-        ),
-        (
-            GREATER,
-            r#"["slice",0,-1,2]"#,
-            "Unsupported NegativeOffset at 1\n",
         ),
         (
             GREATER,
