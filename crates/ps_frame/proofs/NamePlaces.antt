@@ -4,7 +4,7 @@ use Rattle.std.specs.Prelude.{not, ◌||◌, if◌then◌else◌, nat_lt, is_som
 use Rattle.std.specs.List.{position_or_len, list_any}
 use Rattle.std.specs.Cmp.{nat_eq_equiv}
 use Rattle.std.specs.Cmp.Lexicographic.{bytes_decides, lists_equiv}
-use Rattle.std.specs.HashMap.{HashMap, get_by_text}
+use Rattle.std.specs.BTreeMap.{BTreeMap, get_by_text}
 use Rattle.std.specs.Str.{bytes_eq}
 use Rattle.std.specs.declared.string.String.{String}
 use Rattle.std.proofs.lemmas.Bool.{lt-ltb}
@@ -60,7 +60,7 @@ is_some-position p [] = refl
 is_some-position p (x ∷ xs) = some-step p x xs (p x) refl (is_some-position p xs)
 
 -- a map in which one more name has its place
-pub finds-more : {A S : Type 0} (fields : Fields) (f : List ℕ × DataType) (i : ℕ) (before after : HashMap (String A) ℕ S)
+pub finds-more : {A : Type 0} (fields : Fields) (f : List ℕ × DataType) (i : ℕ) (before after : BTreeMap (String A) ℕ)
     → FindsEach fields before → has_name f.0 fields ≡ false → i ≡ length fields
     → ((other : List ℕ) → get_by_text after other ≡ (if bytes_eq f.0 other then Some i else get_by_text before other)) → FindsEach (fields ++ f ∷ []) after
 finds-more fields f i before after found absent last put name = put name ∙ by (bytes_eq f.0 name) refl
@@ -90,7 +90,7 @@ not-before (x ∷ fields) (suc i) f d h is =
     or-false (bytes_eq f.0 x.0) (has_name f.0 (take i fields)) differs (not-before fields i f parts.1 (omega arith) is)
 
 -- one more of the names has its place
-pub finds-step : {A S : Type 0} (fields : Fields) (i : ℕ) (f : List ℕ × DataType) (name : List ℕ) (before after : HashMap (String A) ℕ S)
+pub finds-step : {A : Type 0} (fields : Fields) (i : ℕ) (f : List ℕ × DataType) (name : List ℕ) (before after : BTreeMap (String A) ℕ)
     → IsTrue (has_distinct_names fields) → i < length fields → f ≡ get_or fields i f → name ≡ f.0 → FindsEach (take i fields) before
     → ((other : List ℕ) → get_by_text after other ≡ (if bytes_eq name other then Some i else get_by_text before other)) → FindsEach (take (i + 1) fields) after
 finds-step fields i f name before after d h is named found put other =
@@ -101,14 +101,14 @@ finds-step fields i f name before after d h is named found put other =
     ∙ sym (ap (field_index other) more)
 
 -- many names with a map that finds them, and a few without one
-pub found-many : {A S : Type 0} (many : ℕ) (fields : Fields) (map : HashMap (String A) ℕ S) → IsTrue (has_distinct_names fields) → many ≤ length fields → FindsEach fields map → AreFound many fields (Some map)
+pub found-many : {A : Type 0} (many : ℕ) (fields : Fields) (map : BTreeMap (String A) ℕ) → IsTrue (has_distinct_names fields) → many ≤ length fields → FindsEach fields map → AreFound many fields (Some map)
 found-many many fields map d h found = record {
   distinct = d;
   mapped = (λ _. h, λ _. refl);
   found = λ other is. let same : map ≡ other = cc in subst (λ m. FindsEach fields m) same found;
 }
 
-pub found-few : {A S : Type 0} (many : ℕ) (fields : Fields) → IsTrue (has_distinct_names fields) → length fields < many → AreFound {A = A} {S = S} many fields None
+pub found-few : {A : Type 0} (many : ℕ) (fields : Fields) → IsTrue (has_distinct_names fields) → length fields < many → AreFound {A = A} many fields None
 found-few many fields d h = record {
   distinct = d;
   mapped = (λ is. cc, λ le. absurd (omega arith));
@@ -116,13 +116,13 @@ found-few many fields d h = record {
 }
 
 -- one more name, beside the map
-pub found-more : {A S : Type 0} (many : ℕ) (fields : Fields) (f : List ℕ × DataType) (before after : HashMap (String A) ℕ S)
+pub found-more : {A : Type 0} (many : ℕ) (fields : Fields) (f : List ℕ × DataType) (before after : BTreeMap (String A) ℕ)
     → IsTrue (has_distinct_names fields) → has_name f.0 fields ≡ false → many ≤ length fields + 1 → FindsEach fields before
     → ((other : List ℕ) → get_by_text after other ≡ (if bytes_eq f.0 other then Some (length fields) else get_by_text before other)) → AreFound many (fields ++ f ∷ []) (Some after)
 found-more many fields f before after d absent h found put =
     let enough : many ≤ length (fields ++ f ∷ []) = simp length-append (omega arith) in
     found-many many (fields ++ f ∷ []) after (distinct-append fields f d absent) enough (finds-more fields f (length fields) before after found absent refl put)
 
-pub found-few-more : {A S : Type 0} (many : ℕ) (fields : Fields) (f : List ℕ × DataType) → IsTrue (has_distinct_names fields) → has_name f.0 fields ≡ false → length fields + 1 < many → AreFound {A = A} {S = S} many (fields ++ f ∷ []) None
+pub found-few-more : {A : Type 0} (many : ℕ) (fields : Fields) (f : List ℕ × DataType) → IsTrue (has_distinct_names fields) → has_name f.0 fields ≡ false → length fields + 1 < many → AreFound {A = A} many (fields ++ f ∷ []) None
 found-few-more many fields f d absent h =
     let few : length (fields ++ f ∷ []) < many = simp length-append (omega arith) in found-few many (fields ++ f ∷ []) (distinct-append fields f d absent) few

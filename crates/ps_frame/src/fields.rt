@@ -1,6 +1,6 @@
 // Fields whose names differ, found by name.
 ghost use Rattle.std.specs.Prelude.{◌≡◌, ◌++◌, ◌∷◌, [], List, ℕ, IsTrue, IsFalse, IfOk, OnOk, OnErr, Err, None, Some, if◌then◌else◌};
-ghost use Rattle.std.specs.HashMap.{get_by_text};
+ghost use Rattle.std.specs.BTreeMap.{get_by_text};
 ghost use Rattle.std.specs.Str.{bytes_eq};
 ghost use Rattle.ps_frame.specs.Frames.{has_distinct_names, has_name, shared_name};
 ghost use Rattle.ps_frame.specs.Places.{AreFound, FindsEach};
@@ -11,10 +11,11 @@ use crate::error::FrameError;
 use crate::value::DataType;
 use pu_base::PlSmallStr;
 use std::alloc::{AllocError, Global};
-use std::collections::HashMap;
+use std::collections::BTreeMap;
 use std::marker::Model;
 
-// From so many names on a map finds them. A few are found faster by comparing each.
+// From so many names on a map finds them, in order of the names: no names make it slow, as names that
+// are chosen to collide make a map by hashes. A few are found faster by comparing each.
 const MANY: usize = 16;
 
 /// Names, which differ, with their kinds, in order.
@@ -22,7 +23,7 @@ const MANY: usize = 16;
 pub(crate) struct Fields {
     list: Vec<(PlSmallStr, DataType)>,
     // Where each name stands, if there are many.
-    places: Option<HashMap<String, usize>>,
+    places: Option<BTreeMap<String, usize>>,
 }
 
 impl Model for Fields {
@@ -139,7 +140,7 @@ impl Fields {
 // Notes where the name stands that comes next, if there are many with it.
 fn note_next(
     alloc: Global,
-    places: &mut Option<HashMap<String, usize>>,
+    places: &mut Option<BTreeMap<String, usize>>,
     list: &[(PlSmallStr, DataType)],
     name: &str,
 ) -> Result<(), AllocError>
@@ -164,11 +165,11 @@ fn note_next(
 fn places_of(
     alloc: Global,
     list: &[(PlSmallStr, DataType)],
-) -> Result<HashMap<String, usize>, AllocError>
+) -> Result<BTreeMap<String, usize>, AllocError>
     requires { IsTrue (has_distinct_names list.now) }
     ensures { IfOk result (λ places. FindsEach list.now places) }
 {
-    let mut places = HashMap::with_capacity(alloc, list.len())?;
+    let mut places = BTreeMap::new(alloc);
     for (i, field) in list.iter().enumerate() {
         insert_place(alloc, &mut places, field.0.as_str(), i)?;
     }
@@ -177,7 +178,7 @@ fn places_of(
 
 fn insert_place(
     alloc: Global,
-    places: &mut HashMap<String, usize>,
+    places: &mut BTreeMap<String, usize>,
     name: &str,
     place: usize,
 ) -> Result<(), AllocError>
