@@ -14,3 +14,4 @@ pub mod Aboves
 pub mod Seams
 pub mod Packing
 pub mod Stacks
+pub mod Starts

@@ -242,10 +242,10 @@ impl ColumnBuilder {
     // pushed so far and for what comes behind.
     fn can_share(&self, column: &Column) -> bool {
         let runs = match &self.front {
-            Some(front) => front.count_runs(),
+            Some(front) => front.n_chunks(),
             None => 0,
         };
-        column.is_wide() && runs.saturating_add(column.count_runs()) <= MOST_RUNS - 2
+        column.is_wide() && runs.saturating_add(column.n_chunks()) <= MOST_RUNS - 2
     }
 
     // What `with_column` answers; the values of the column are shared, if there is room.

@@ -18,7 +18,5 @@ pub mod refusal;
 pub mod run;
 mod runs;
 pub mod schema;
-#[cfg(test)]
-mod tests;
 pub mod value;
 pub mod view;

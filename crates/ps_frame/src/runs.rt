@@ -1,32 +1,39 @@
 // Runs that lie apart, seen as one list.
-ghost use Rattle.std.specs.Prelude.{◌≡◌, ◌++◌, ◌+◌, ◌<◌, take, drop, length, slice_get, IfOk, IfSome, OnOk, Some};
-ghost use Rattle.ps_frame.specs.EndToEnd.{end_to_end};
+ghost use Rattle.std.specs.Prelude.{◌≡◌, ◌++◌, ◌+◌, ◌^◌, ◌<◌, ◌≤◌, take, drop, length, slice_get, slice_index, IfOk, IfSome, OnOk, Some};
+ghost use Rattle.std.specs.List.Sorted.{IsNonDecreasingBy};
+ghost use Rattle.ps_frame.specs.EndToEnd.{end_to_end, starts_from};
 
 use crate::run::Run;
 use crate::value::Value;
 use std::alloc::{AllocError, Global};
 use std::marker::Model;
 
-// More runs are not put together, since an item is looked for from the first on.
+// More runs are not put together, so that each of them is found in a few steps, and taken along by
+// each share.
 pub(crate) const MOST_RUNS: usize = 16;
 
 /// Runs one after another, which others may share. Contracts see them as one list.
+///
+/// It is noted where each run starts, so that an item's run is found by halves.
 #[derive(Drop)]
 pub(crate) struct Runs<T> {
     first: Run<T>,
     rest: Vec<Run<T>>,
+    // Of each of the rest.
+    starts: Vec<usize>,
     len: usize,
 }
 
 impl<T> Model for Runs<T> {
-    ghost use Rattle.std.specs.Prelude.{List, ◌≡◌, ◌++◌, length};
-    ghost use Rattle.ps_frame.specs.EndToEnd.{end_to_end};
+    ghost use Rattle.std.specs.Prelude.{List, ◌++◌};
+    ghost use Rattle.ps_frame.specs.EndToEnd.{AreLaid, end_to_end};
+    ghost use Rattle.ps_frame.specs.declared.runs.TheConstants.{MOST_RUNS};
 
     ghost Value = { List T };
 
     ghost view = { λ a. a.first ++ end_to_end a.rest.items };
 
-    ghost invariant = { λ a. a.len ≡ length (a.first ++ end_to_end a.rest.items) };
+    ghost invariant = { λ a. AreLaid MOST_RUNS a.first a.rest.items a.starts.items a.len };
 }
 
 impl<T: Drop> Runs<T> {
@@ -38,6 +45,7 @@ impl<T: Drop> Runs<T> {
         Runs {
             first: run,
             rest: Vec::new(alloc),
+            starts: Vec::new(alloc),
             len,
         }
     }
@@ -50,8 +58,11 @@ impl<T: Drop> Runs<T> {
     }
 
     /// How many runs there are.
-    pub(crate) fn count(&self) -> usize {
-        self.rest.len().saturating_add(1)
+    pub(crate) fn count(&self) -> usize
+        ensures some { 1 ≤ result }
+        ensures few { result ≤ MOST_RUNS }
+    {
+        self.rest.len() + 1
     }
 
     /// The run, if there is only one.
@@ -70,11 +81,11 @@ impl<T: Drop> Runs<T> {
         requires { i < length self.now }
         ensures { slice_get self.now i ≡ Some result.now }
     {
-        let before = self.first.len();
-        if i < before {
+        if i < self.first.len() {
             return self.first.item(i);
         }
-        item_of(self.rest.as_slice(), i - before)
+        let k = last_up_to(self.starts.as_slice(), i);
+        self.rest[k].item(i - self.starts[k])
     }
 
     /// The same runs; their items are not copied.
@@ -86,11 +97,7 @@ impl<T: Drop> Runs<T> {
         let first = self.first.share()?;
         let mut rest = Vec::new(alloc);
         push_shared(&mut rest, self.rest.as_slice())?;
-        Ok(Runs {
-            first,
-            rest,
-            len: self.len,
-        })
+        Runs::laid(alloc, first, rest, self.len)
     }
 
     /// The items from a place on, as many as asked at most; they are not copied.
@@ -110,20 +117,48 @@ impl<T: Drop> Runs<T> {
         let mut rest = Vec::new(alloc);
         push_slices(&mut rest, self.rest.as_slice(), skip, left)?;
         let len = length.min(self.len - offset.min(self.len));
-        Ok(Runs::of_parts(first, rest, len))
+        let runs = Runs::of_parts(alloc, first, rest, len)?;
+        Ok(runs)
     }
 
     // These runs; an empty first one is left out where another one follows.
-    fn of_parts(first: Run<T>, rest: Vec<Run<T>>, len: usize) -> Runs<T>
-        requires { len ≡ length (first ++ end_to_end rest.items) }
-        ensures { result ≡ first ++ end_to_end rest.items }
+    fn of_parts(
+        alloc: Global,
+        first: Run<T>,
+        rest: Vec<Run<T>>,
+        len: usize,
+    ) -> Result<Runs<T>, AllocError>
+        requires counted { len ≡ length (first ++ end_to_end rest.items) }
+        requires few { length rest.items < MOST_RUNS }
+        ensures laid { IfOk result (λ runs. runs ≡ first ++ end_to_end rest.items) }
     {
         if !first.is_empty() || rest.is_empty() {
-            return Runs { first, rest, len };
+            return Runs::laid(alloc, first, rest, len);
         }
         let mut rest = rest;
         let first = rest.remove(0);
-        Runs { first, rest, len }
+        let runs = Runs::laid(alloc, first, rest, len)?;
+        Ok(runs)
+    }
+
+    // These runs, with a note of where each starts.
+    fn laid(
+        alloc: Global,
+        first: Run<T>,
+        rest: Vec<Run<T>>,
+        len: usize,
+    ) -> Result<Runs<T>, AllocError>
+        requires counted { len ≡ length (first ++ end_to_end rest.items) }
+        requires few { length rest.items < MOST_RUNS }
+        ensures laid { IfOk result (λ runs. runs ≡ first ++ end_to_end rest.items) }
+    {
+        let starts = starts_of(alloc, first.len(), rest.as_slice())?;
+        Ok(Runs {
+            first,
+            rest,
+            starts,
+            len,
+        })
     }
 
     /// These runs and then others; none of their items is copied. None where they would be more
@@ -137,25 +172,18 @@ impl<T: Drop> Runs<T> {
     ) -> Result<Option<Runs<T>>, AllocError>
         ensures joined { IfOk result (λ o. IfSome o (λ runs. runs ≡ self.now ++ other.now)) }
     {
-        if self.count().saturating_add(other.count()) > MOST_RUNS {
+        let Some(len) = self.len.checked_add(other.len) else {
             return Ok(None);
-        }
-        match self.len.checked_add(other.len) {
-            Some(len) => Ok(Some(self.joined(alloc, other, len)?)),
-            None => Ok(None),
-        }
-    }
-
-    fn joined(&self, alloc: Global, other: &Runs<T>, len: usize) -> Result<Runs<T>, AllocError>
-        requires { len ≡ length self.now + length other.now }
-        ensures joined { IfOk result (λ runs. runs ≡ self.now ++ other.now) }
-    {
-        let first = self.first.share()?;
+        };
         let mut rest = Vec::new(alloc);
         push_shared(&mut rest, self.rest.as_slice())?;
         rest.push(other.first.share()?)?;
         push_shared(&mut rest, other.rest.as_slice())?;
-        Ok(Runs { first, rest, len })
+        if rest.len() >= MOST_RUNS {
+            return Ok(None);
+        }
+        let runs = Runs::laid(alloc, self.first.share()?, rest, len)?;
+        Ok(Some(runs))
     }
 }
 
@@ -181,18 +209,34 @@ impl Runs<Value> {
     }
 }
 
-fn item_of<T: Drop>(runs: &[Run<T>], i: usize) -> &T
-    requires { i < length (end_to_end runs.now) }
-    ensures { slice_get (end_to_end runs.now) i ≡ Some result.now }
+// Which of these starts, that rise, is the last one up to a place.
+fn last_up_to(starts: &[usize], i: usize) -> usize
+    requires rise { IsNonDecreasingBy (λ start. start) starts.now }
+    requires some { 0 < length starts.now }
+    requires begun { slice_index starts.now 0 ≤ i }
+    ensures within { result < length starts.now }
+    ensures begun { slice_index starts.now result ≤ i }
+    ensures last { result + 1 < length starts.now → i < slice_index starts.now (result + 1) }
 {
-    let mut left = i;
+    starts.partition_point(|start| *start <= i) - 1
+}
+
+// Where each of these runs starts, the first of them at a place.
+fn starts_of<T: Drop>(
+    alloc: Global,
+    start: usize,
+    runs: &[Run<T>],
+) -> Result<Vec<usize>, AllocError>
+    requires { start + length (end_to_end runs.now) < 2 ^ 64 }
+    ensures { IfOk result (λ starts. starts.items ≡ starts_from start runs.now) }
+{
+    let mut starts = Vec::with_capacity(alloc, runs.len())?;
+    let mut next = start;
     for run in runs {
-        if left < run.len() {
-            return run.item(left);
-        }
-        left -= run.len();
+        starts.push(next)?;
+        next += run.len();
     }
-    unreachable!()
+    Ok(starts)
 }
 
 fn push_shared<T: Drop>(shared: &mut Vec<Run<T>>, runs: &[Run<T>]) -> Result<(), AllocError>
@@ -209,12 +253,13 @@ fn push_slices<T: Drop>(
     parts: &mut Vec<Run<T>>,
     runs: &[Run<T>],
     offset: usize,
-    length: usize,
+    count: usize,
 ) -> Result<(), AllocError>
-    ensures added { OnOk result (end_to_end parts.new.items ≡ end_to_end parts.old.items ++ take length (drop offset (end_to_end runs.now))) }
+    ensures added { OnOk result (end_to_end parts.new.items ≡ end_to_end parts.old.items ++ take count (drop offset (end_to_end runs.now))) }
+    ensures few { OnOk result (length parts.new.items ≤ length parts.old.items + length runs.now) }
 {
     let mut skip = offset;
-    let mut left = length;
+    let mut left = count;
     for run in runs {
         let part = run.slice(skip, left)?;
         skip = skip.saturating_sub(run.len());
@@ -227,6 +272,7 @@ fn push_slices<T: Drop>(
 // Adds a run, unless it is empty.
 fn push_some<T: Drop>(parts: &mut Vec<Run<T>>, part: Run<T>) -> Result<(), AllocError>
     ensures added { OnOk result (end_to_end parts.new.items ≡ end_to_end parts.old.items ++ part) }
+    ensures few { OnOk result (length parts.new.items ≤ length parts.old.items + 1) }
 {
     if part.is_empty() {
         return Ok(());
