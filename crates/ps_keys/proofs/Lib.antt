@@ -3,6 +3,8 @@ pub mod RowValues
 pub mod FirstRows
 pub mod Numberings
 pub mod KeyChains
+pub mod RowOrder
+pub mod OrderedTables
 pub mod Codes
 pub mod Places
 pub mod Parts

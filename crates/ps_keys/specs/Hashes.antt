@@ -1,5 +1,5 @@
 -- Rows of columns, and their hashes.
-use Rattle.std.specs.Prelude.{◌≡◌, ℕ, ◌<◌, ◌*◌, ◌%◌, ◌^◌, ℤ, List, [], ◌∷◌, map, fold, get_or, length, Option, Some, None, unwrap_or, if◌then◌else◌}
+use Rattle.std.specs.Prelude.{◌≡◌, ℕ, ◌<◌, ◌*◌, ◌/◌, ◌%◌, ◌^◌, bit_xor, ℤ, List, [], ◌∷◌, map, fold, get_or, length, Option, Some, None, unwrap_or, if◌then◌else◌}
 use Rattle.std.specs.Int.{w64, cast_unsigned, int_wrap}
 use Rattle.std.specs.List.{All}
 use Rattle.std.specs.Ordering.{int_eq}
@@ -34,9 +34,13 @@ with_value state v = fold folding.write state (writes v)
 abbrev pub times_odd : ℕ → ℕ
 times_odd n = n * 11400714819323198485 % 2 ^ 64
 
+-- a number whose upper half is folded into its lower one, by which no two numbers below 2 ^ 64 come together
+abbrev pub folded : ℕ → ℕ
+folded n = bit_xor n (n / 2 ^ 32)
+
 -- the hash of a number: unless it is 0 no other number has it, and what 64 bits don't hold has 0
 abbrev pub number_hash : ℤ → ℕ
-number_hash z = if int_eq (int_wrap w64 z) z then times_odd (cast_unsigned w64 z) else 0
+number_hash z = if int_eq (int_wrap w64 z) z then times_odd (folded (cast_unsigned w64 z)) else 0
 
 -- the hash of a number or a null that stands alone in its row
 abbrev pub alone_hash : List Value → Option ℕ

@@ -15,6 +15,14 @@ const FEWEST_BUCKETS: usize = 64;
 // How many times as many it has when it grows.
 const GROWTH: usize = 4;
 
+// How many keys of a bucket are looked at. There are no more keys than buckets, so chains are far shorter
+// unless keys were chosen to share theirs.
+const LONGEST_WALK: usize = 32;
+
+/// A chain that is too long to be walked.
+#[derive(Drop)]
+struct ChainTooLong;
+
 /// The first row of each key by the key's number, its hash, and chains of the keys of each bucket.
 ///
 /// A head or a next is one more than a key's number, and 0 is the end of a chain.
@@ -52,7 +60,8 @@ impl KeyBuckets {
         })
     }
 
-    /// The number of a row's key, which is put in if it is new.
+    /// The number of a row's key, which is put in if it is new. There is none if a chain is too long to
+    /// be walked, and nothing is put in then.
     ///
     /// Fails only for want of memory.
     pub(crate) fn number_of(
@@ -60,23 +69,26 @@ impl KeyBuckets {
         alloc: Global,
         columns: &[Column],
         row: usize,
-    ) -> Result<usize, AllocError>
+    ) -> Result<Option<usize>, AllocError>
         requires sound { IsSound (row_at columns.now) self.old }
         requires buckets { 0 < length self.old.heads.items }
         requires rows { HaveRows columns.now self.old.firsts.items }
         requires row { HaveRow columns.now row }
         ensures sound { OnOk result (IsSound (row_at columns.now) self.new) }
-        ensures number { IfOk result (IsNumbered (row_at columns.now) self.old.firsts.items self.new.firsts.items row) }
+        ensures number { IfOk result (λ o. IfSome o (IsNumbered (row_at columns.now) self.old.firsts.items self.new.firsts.items row)) }
+        ensures kept { IfOk result (λ o. IfNone o (self.new.firsts.items ≡ self.old.firsts.items)) }
         ensures buckets { OnOk result (0 < length self.new.heads.items) }
     {
         let hash = hash_of(columns, row);
-        if let Some(key) = self.find(columns, row, hash) {
-            return Ok(key);
+        match self.find(columns, row, hash) {
+            Ok(Some(key)) => return Ok(Some(key)),
+            Ok(None) => {}
+            Err(ChainTooLong) => return Ok(None),
         }
         self.make_room(alloc, columns)?;
         let key = self.firsts.len();
         self.push(columns, row, hash)?;
-        Ok(key)
+        Ok(Some(key))
     }
 
     // Has more buckets than keys from here on.
@@ -114,25 +126,28 @@ impl KeyBuckets {
         Ok(table)
     }
 
-    // The number of a row's key, whose hash is given.
-    fn find(&self, columns: &[Column], row: usize, hash: u64) -> Option<usize>
+    // The number of a row's key, whose hash is given, unless the chain of its bucket is too long.
+    fn find(&self, columns: &[Column], row: usize, hash: u64) -> Result<Option<usize>, ChainTooLong>
         requires sound { IsSound (row_at columns.now) self.now }
         requires buckets { 0 < length self.now.heads.items }
         requires rows { HaveRows columns.now self.now.firsts.items }
         requires row { HaveRow columns.now row }
         requires hash { hash ≡ row_hash (row_at columns.now row) }
-        ensures found { IfSome result (IsKeyOf (row_at columns.now) self.now.firsts.items row) }
-        ensures absent { IfNone result (IsNew (row_at columns.now) self.now.firsts.items row) }
+        ensures found { IfOk result (λ o. IfSome o (IsKeyOf (row_at columns.now) self.now.firsts.items row)) }
+        ensures absent { IfOk result (λ o. IfNone o (IsNew (row_at columns.now) self.now.firsts.items row)) }
     {
         let mut next = self.heads[hash_to_partition(hash, self.heads.len())];
-        while next != 0 {
+        for _ in 0..LONGEST_WALK {
+            if next == 0 {
+                return Ok(None);
+            }
             let key = next - 1;
             if self.is_key_of(columns, row, hash, key) {
-                return Some(key);
+                return Ok(Some(key));
             }
             next = self.nexts[key];
         }
-        None
+        Err(ChainTooLong)
     }
 
     // Whether a row has this key. The hashes are compared first.

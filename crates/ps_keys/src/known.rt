@@ -3,11 +3,12 @@
 // Where each column picks its values from others, rows whose values stand at the same places have the
 // same key, which is told without a look at the values. A key that isn't known is looked for in the table.
 ghost use Rattle.std.specs.Prelude.{◌≡◌, ◌<◌, ℕ, List, length, IfOk, IfSome, OnOk};
-ghost use Rattle.ps_keys.specs.Chains.{HaveRows, IsNumbered, IsSound};
+ghost use Rattle.ps_keys.specs.Chains.{HaveRows, IsNumbered};
 ghost use Rattle.ps_keys.specs.Codes.{ArePickedColumns, Knows, code_at};
 ghost use Rattle.ps_keys.specs.Hashes.{HaveRow, row_at};
+ghost use Rattle.ps_keys.specs.Tables.{IsReady, firsts_of};
 
-use crate::buckets::KeyBuckets;
+use crate::table::KeyTable;
 use ps_frame::column::Column;
 use std::alloc::{AllocError, Global};
 
@@ -57,19 +58,17 @@ impl<'a> KnownKeys<'a> {
     pub(crate) fn number_of(
         &mut self,
         alloc: Global,
-        table: &mut KeyBuckets,
-        columns: &[Column],
+        table: &mut KeyTable<'a>,
+        columns: &'a [Column],
         row: usize,
     ) -> Result<usize, AllocError>
-        requires known { Knows columns.now table.old.firsts.items self.old }
-        requires sound { IsSound (row_at columns.now) table.old }
-        requires buckets { 0 < length table.old.heads.items }
-        requires rows { HaveRows columns.now table.old.firsts.items }
+        requires known { Knows columns.now (firsts_of table.old) self.old }
+        requires ready { IsReady columns.now table.old }
+        requires rows { HaveRows columns.now (firsts_of table.old) }
         requires row { HaveRow columns.now row }
-        ensures known { OnOk result (Knows columns.now table.new.firsts.items self.new) }
-        ensures sound { OnOk result (IsSound (row_at columns.now) table.new) }
-        ensures number { IfOk result (IsNumbered (row_at columns.now) table.old.firsts.items table.new.firsts.items row) }
-        ensures buckets { OnOk result (0 < length table.new.heads.items) }
+        ensures known { OnOk result (Knows columns.now (firsts_of table.new) self.new) }
+        ensures ready { OnOk result (IsReady columns.now table.new) }
+        ensures number { IfOk result (IsNumbered (row_at columns.now) (firsts_of table.old) (firsts_of table.new) row) }
     {
         let Some(slot) = self.slot(row) else {
             return table.number_of(alloc, columns, row);

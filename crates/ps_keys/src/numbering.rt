@@ -4,8 +4,8 @@ ghost use Rattle.ps_frame.specs.Frames.{AllOfHeight, column_values};
 ghost use Rattle.ps_frame.specs.Tables.{rows_of};
 ghost use Rattle.ps_keys.specs.Numbering.{Numbers};
 
-use crate::buckets::KeyBuckets;
 use crate::known::KnownKeys;
+use crate::table::KeyTable;
 use ps_frame::column::Column;
 use std::alloc::{AllocError, Global};
 
@@ -28,12 +28,12 @@ pub fn number_rows(
     requires { AllOfHeight height columns.now }
     ensures { IfOk result (Numbers (rows_of height (column_values columns.now))) }
 {
-    let mut table = KeyBuckets::new(alloc)?;
+    let mut table = KeyTable::new(alloc)?;
     let mut known = KnownKeys::new(alloc, columns, height)?;
     let mut keys = Vec::with_capacity(alloc, height)?;
     for row in 0..height {
         keys.push(known.number_of(alloc, &mut table, columns, row)?)?;
     }
-    let KeyBuckets { firsts, .. } = table;
+    let firsts = table.into_firsts();
     Ok(Numbering { keys, firsts })
 }

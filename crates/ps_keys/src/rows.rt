@@ -53,7 +53,10 @@ fn feed(value: &Value, state: &mut FoldHasher)
 fn hash_number(number: i64) -> u64
     ensures { result ≡ number_hash number }
 {
-    number.cast_unsigned().wrapping_mul(FACTOR)
+    let bits = number.cast_unsigned();
+    // A product's upper bits, of which a bucket is made, depend on all bits below them. Folded so, numbers
+    // that differ in their upper bits alone differ in their lower half too.
+    (bits ^ bits >> 32).wrapping_mul(FACTOR)
 }
 
 // The hash of a number or a null that stands alone in its row.

@@ -1,9 +1,11 @@
 use Rattle.std.proofs.Common.{◌≡◌, map, arith, rules, sym, ap, subst, ◌∙◌}
 use Rattle.std.proofs.lemmas.List.{length-map}
+use Rattle.ps_frame.specs.Frames.{column_values}
+use Rattle.ps_frame.specs.Tables.{rows_of}
 use Rattle.ps_frame.specs.Zip.{below}
 use Rattle.ps_keys.specs.Hashes.{row_at}
 use Rattle.ps_keys.specs.Numbering.{Numbers}
-use Rattle.ps_keys.specs.declared.numbering.Numbering.{Numbering}
+use Rattle.ps_keys.specs.Tables.{first_rows, firsts_of}
 use Rattle.ps_keys.proofs.FirstRows.{length-below}
 use Rattle.ps_keys.proofs.Numberings.{firsts-below, numbers-none, numbers-step}
 use Rattle.ps_keys.proofs.RowValues.{have_row, rows_of-is}
@@ -11,10 +13,9 @@ use Rattle.ps_keys.proofs.numbering.number_rows.Goals as goal
 
 pub loop-row-init : goal.loop-row-init
 loop-row-init c = record {
-  numbers = numbers-none _ (search rules) (search rules);
-  sound = c.in_ok-table.ensures.sound (row_at c.args.columns.now);
-  buckets = search rules;
-  known = c.in_ok-known.ensures c.in_ok-table.table.firsts.items;
+  numbers = numbers-none _ (search rules) c.in_ok-table.ensures.empty;
+  ready = c.in_ok-table.ensures.ready c.args.columns.now;
+  known = c.in_ok-known.ensures (firsts_of c.in_ok-table.table);
 }
 
 pub number_of-requires-clause-rows : goal.number_of-requires-clause-rows
@@ -26,14 +27,14 @@ number_of-requires-clause-rows c = λ k within.
 pub loop-row-preserved : goal.loop-row-preserved
 loop-row-preserved c = record {
   numbers = numbers-step (row_at c.args.columns.now) c.loop-row.row _ _ _ c.loop-row.invariant.numbers c.in_ok-number_of.ensures.number (search rules);
-  sound = c.in_ok-number_of.ensures.sound;
-  buckets = search rules;
+  ready = c.in_ok-number_of.ensures.ready;
   known = c.in_ok-number_of.ensures.known;
 }
 
 pub returns : goal.returns
 returns c =
-    let n : Numbering = record { keys = c.loop-row.keys; firsts = c.loop-row.table.firsts } in
     let all = rows_of-is c.args.height c.args.columns.now c.requires in
     let done : c.loop-row.row ≡ c.args.height = search rules in
-    subst (λ rows. Numbers rows n) (ap (λ h. map (row_at c.args.columns.now) (below h)) done ∙ sym all) c.loop-row.invariant.numbers
+    let counted = subst (λ rows. Numbers rows (record { keys = c.loop-row.keys; firsts = first_rows c.loop-row.table }))
+    (ap (λ h. map (row_at c.args.columns.now) (below h)) done ∙ sym all) c.loop-row.invariant.numbers in
+    subst (λ firsts. Numbers (rows_of c.args.height (column_values c.args.columns.now)) (record { keys = c.loop-row.keys; firsts = firsts })) (sym c.into_firsts-firsts.ensures) counted
