@@ -1,15 +1,19 @@
 -- The slice of a whole table.
 use Rattle.std.proofs.Common.{◌≡◌, ℕ, suc, ℤ, pos, negsuc, ◌+◌, ◌-◌, ◌^◌, ◌<◌, ◌≤◌, ◌⊎◌, List, [], Bool, true, false, min, take, drop, length, refl, sym, ◌∙◌, ap, arith, inl, inr}
-use Rattle.std.specs.Prelude.{if◌then◌else◌, nat_eq, nat_le, ◌||◌, ◌<ℤ◌, ◌≤ℤ◌, unsigned_abs}
+use Rattle.std.specs.Prelude.{None, Some, map, if◌then◌else◌, nat_eq, nat_le, ◌||◌, ◌<ℤ◌, ◌≤ℤ◌, unsigned_abs}
 use Rattle.std.proofs.lemmas.Bool.{cases_lt, eqb-true}
 use Rattle.std.proofs.lemmas.Int.{ints}
-use Rattle.std.proofs.lemmas.List.{length-drop, take_all}
+use Rattle.std.proofs.lemmas.List.{drop-map, length-drop, length-map, length-take, take-map, take_all}
 use Rattle.ps_frame.proofs.Lists.{drop-take_sub}
 use Rattle.ps_frame.specs.Aggregates.{max_rows}
 use Rattle.ps_frame.specs.Causes.{Cause}
 use Rattle.ps_frame.specs.Tables.{Fields, Frame, Table, no_rows, whole}
 use Rattle.ps_frame.specs.declared.value.Value.{Value}
-use Rattle.ps_meaning.specs.Cases.{cut_at, cut_from_end, cut_table, end_of, rows_from_end, rows_table}
+use Rattle.std.specs.List.{AllByRecursion}
+use Rattle.ps_meaning.proofs.Fits.{all-drop, all-take}
+use Rattle.ps_meaning.specs.Cases.{cut_at, cut_by, cut_from_end, cut_table, end_of, rows_from_end, rows_table}
+use Rattle.ps_meaning.specs.Steps.{Cut}
+use Rattle.ps_tables.specs.Cuts.{cut_end, cut_rows, cut_start, end_at, start_at}
 
 abbrev pub table : Fields → List (List Value) → List Cause → Table
 table s rows broken = record { schema = s; rows = rows; broken = broken }
@@ -75,3 +79,45 @@ part-is-cut t p (negsuc k) n start count height all few front back schema rows =
     let from : start ≡ length t.rows - (k + 1) = omega arith in
     let to : start + count ≡ length t.rows + n - (k + 1) = omega arith in
     cut-from-end t p (k + 1) n schema (rows ∙ rows-from-end (k + 1) n start count t.rows from to)
+
+-- the bounds of a slice are where its rows begin and end
+pub span-is : (offset : ℤ) (n start count height : ℕ) → (pos 0 ≤ℤ offset → (pos start ≡ offset) × (count ≡ n)) → (offset <ℤ pos 0 → (start ≡ height - unsigned_abs offset) × (start + count ≡ height + n - unsigned_abs offset))
+    → (start ≡ start_at offset height) × (start + count ≡ end_at offset n height)
+span-is (pos o) n start count height front back =
+    let bounds = front (omega (arith, ints)) in
+    let starts : pos start ≡ pos o = bounds.0 in
+    let from : start ≡ o = cc in
+    let many : count ≡ n = bounds.1 in
+    (from, omega (arith, from, many))
+span-is (negsuc k) n start count height front back =
+    let bounds = back (omega (arith, ints)) in
+    let starts : start ≡ height - suc k = bounds.0 in
+    let ends : start + count ≡ height + n - suc k = bounds.1 in
+    (omega (arith, starts), omega (arith, ends))
+
+-- the rows of a slice of a whole table are those of its slice
+rows-cut-at : (t p : Frame) (offset : ℤ) (n : ℕ) → length t.rows ≤ max_rows → p.schema ≡ t.schema → p.rows ≡ drop (start_at offset (length t.rows)) (take (end_at offset n (length t.rows)) t.rows) → whole p ≡ cut_at offset n (whole t)
+rows-cut-at t p (pos o) n few schema rows =
+    let many : o + n - o ≡ n = omega arith in
+    cut-from-start t p o n few schema (rows ∙ drop-take_sub o (o + n) t.rows ∙ ap (λ k. take k (drop o t.rows)) many)
+rows-cut-at t p (negsuc k) n few schema rows = cut-from-end t p (k + 1) n schema rows
+
+pub cut-is : (cut : Cut) (t p : Frame) → length t.rows ≤ max_rows → p.schema ≡ t.schema → p.rows ≡ cut_rows cut t.rows → whole p ≡ cut_by cut (whole t)
+cut-is None t p few schema rows = let all : p.rows ≡ t.rows = rows ∙ take_all (length t.rows) t.rows (omega arith) in λ i. table (schema i) (all i) []
+cut-is (Some (offset, n)) t p few schema rows = rows-cut-at t p offset n few schema rows
+
+-- a slice goes with what is done to each row, and holds no other rows
+pub cut-map : {A B : Type 0} (f : A → B) (cut : Cut) (rows : List A) → cut_rows cut (map f rows) ≡ map f (cut_rows cut rows)
+cut-map f cut rows =
+    ap (λ n. drop (cut_start cut n) (take (cut_end cut n) (map f rows))) (length-map rows f)
+    ∙ ap (drop (cut_start cut (length rows))) (take-map f (cut_end cut (length rows)) rows)
+    ∙ drop-map f (cut_start cut (length rows)) (take (cut_end cut (length rows)) rows)
+
+pub cut-few : {A : Type 0} (cut : Cut) (rows : List A) → length (cut_rows cut rows) ≤ length rows
+cut-few cut rows =
+    let front = length-take (cut_end cut (length rows)) rows in
+    let rest = length-drop (cut_start cut (length rows)) (take (cut_end cut (length rows)) rows) in
+    omega (arith, front, rest)
+
+pub cut-all : {A : Type 0} (P : A → Type 0) (cut : Cut) (rows : List A) → AllByRecursion P rows → AllByRecursion P (cut_rows cut rows)
+cut-all P cut rows all = all-drop P (cut_start cut (length rows)) (take (cut_end cut (length rows)) rows) (all-take P (cut_end cut (length rows)) rows all)

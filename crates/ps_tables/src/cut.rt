@@ -5,6 +5,7 @@ ghost use Rattle.ps_frame.specs.Tables.{whole};
 ghost use Rattle.ps_meaning.specs.Cases.{cut_at, cut_by};
 ghost use Rattle.ps_meaning.specs.Nodes.{GivesFrame};
 ghost use Rattle.ps_meaning.specs.Steps.{slice as slice_step};
+ghost use Rattle.ps_tables.specs.Cuts.{cut_end, cut_start};
 
 use ps_frame::frame::DataFrame;
 use ps_frame::refusal::{PolarsError, PolarsResult};
@@ -34,6 +35,19 @@ pub fn slice(alloc: Global, df: &DataFrame, offset: i64, len: usize) -> PolarsRe
     ensures memory { OnErr result (result ≡ Err PolarsError.OutOfMemory) }
 {
     rows_at(alloc, df, &offset, len)
+}
+
+/// The place of a slice's first row among so many, and how many rows the slice has from there on at most; all rows
+/// where there is no slice. An offset below 0 counts from the end, and rows of the slice that would stand before the
+/// first row aren't counted.
+pub fn span(height: usize, slice: Option<(i64, usize)>) -> (usize, usize)
+    ensures start { result.0 ≡ cut_start slice height }
+    ensures end { result.0 + result.1 ≡ cut_end slice height }
+{
+    match slice {
+        Some((offset, len)) => bounds(height, &offset, len),
+        None => (0, height),
+    }
 }
 
 // The rows from an offset on, as many as asked at most.
