@@ -1,6 +1,7 @@
 // The caches of a plan: each id stands over one input.
-ghost use Rattle.std.specs.Prelude.{◌≡◌, ◌≢◌, ◌≤◌, ◌+◌, ◌<◌, ◌↔◌, ℕ, Contains, IfErr, IfOk, MatchOption, OnErr, OnOk, Some, Err, IsTrue, length, nat_eq, if◌then◌else◌};
-ghost use Rattle.std.specs.HashMap.{get};
+ghost use Rattle.std.specs.Prelude.{◌≡◌, ◌≢◌, ◌≤◌, ◌+◌, ◌<◌, ◌↔◌, ℕ, Contains, IfErr, IfOk, MatchOption, OnErr, OnOk, Some, Err, IsTrue, length, if◌then◌else◌};
+ghost use Rattle.std.specs.BTreeMap.{get};
+ghost use Rattle.std.specs.Ordering.{nat_cmp};
 ghost use Rattle.ps_plan.specs.Refusals.{IsCacheOver};
 ghost use Rattle.ps_validate.specs.Fit.{HaveOneInput, IsCacheError};
 
@@ -8,7 +9,7 @@ use ps_frame::refusal::{PolarsError, PolarsResult, Why};
 use ps_plan::ir::IR;
 use pu_base::{Arena, Node, Steps};
 use std::alloc::{AllocError, Global};
-use std::collections::HashMap;
+use std::collections::BTreeMap;
 use std::sync::ledger::Ledger;
 
 // The id and the input of a cache.
@@ -23,13 +24,13 @@ fn cache_of(entry: &IR) -> Option<(usize, usize)>
 
 // The input over which an id stood first: this one, where it stands for the first time.
 fn first_input(
-    inputs: &mut HashMap<usize, usize>,
+    inputs: &mut BTreeMap<usize, usize>,
     id: usize,
     input: usize,
 ) -> Result<usize, AllocError>
-    ensures noted { IfOk result (λ first. get nat_eq inputs.new id ≡ Some first) }
-    ensures others { OnOk result ((q : ℕ) → q ≢ id → get nat_eq inputs.new q ≡ get nat_eq inputs.old q) }
-    ensures first { IfOk result (λ first. MatchOption (get nat_eq inputs.old id) (first ≡ input) (λ before. first ≡ before)) }
+    ensures noted { IfOk result (λ first. get nat_cmp inputs.new id ≡ Some first) }
+    ensures others { OnOk result ((q : ℕ) → q ≢ id → get nat_cmp inputs.new q ≡ get nat_cmp inputs.old q) }
+    ensures first { IfOk result (λ first. MatchOption (get nat_cmp inputs.old id) (first ≡ input) (λ before. first ≡ before)) }
 {
     match inputs.get(&id).copied() {
         Some(first) => Ok(first),
@@ -53,7 +54,8 @@ pub fn check_caches<L: Ledger>(
     ensures refused { IfErr result (IsCacheError ir.now.items order.now) }
     ensures steps { steps.new ≤ steps.old + length order.now }
 {
-    let mut inputs = HashMap::new(alloc);
+    // In order of the ids, since a map by hashes would be slow at ids that were chosen for it.
+    let mut inputs = BTreeMap::new(alloc);
     for node in order {
         steps.tick();
         if let Some((id, input)) = cache_of(ir.get(Node(*node))) {

@@ -1,6 +1,6 @@
 // Columns of schemas that are looked up by name, or set beside others.
 ghost use Rattle.std.specs.Prelude.{◌≡◌, ◌≢◌, ◌++◌, ◌∷◌, ◌⊎◌, [], Err, IfErr, IfOk, List, OnErr, OnOk, Some};
-ghost use Rattle.std.specs.HashSet.{contains_text};
+ghost use Rattle.std.specs.BTreeSet.{contains_text};
 ghost use Rattle.ps_frame.specs.Tables.{field_kind};
 ghost use Rattle.ps_meaning.specs.Schemas.{is_among, named_fields, names_of, suffixed, without};
 ghost use Rattle.ps_meaning.specs.Steps.{Name};
@@ -14,7 +14,7 @@ use ps_frame::schema::Schema;
 use ps_frame::value::DataType;
 use pu_base::{Node, PlSmallStr};
 use std::alloc::Global;
-use std::collections::HashSet;
+use std::collections::BTreeSet;
 
 /// A schema that has columns; it is refused at the node `at` where it has none.
 pub fn some_columns(at: Node, schema: Schema) -> PolarsResult<Schema>
@@ -164,7 +164,7 @@ pub fn push_without(
     at: Node,
     schema: &mut Schema,
     fields: &Schema,
-    hidden: &HashSet<String>,
+    hidden: &BTreeSet<String>,
 ) -> PolarsResult<()>
     ensures added { (ns : List Name) → ((n : Name) → contains_text hidden.now n ≡ is_among n ns) → OnOk result (schema.new ≡ schema.old ++ without ns fields.now) }
     ensures refused { (ns : List Name) → ((n : Name) → contains_text hidden.now n ≡ is_among n ns) → IfErr result (IsRepeatError at (names_of (schema.old ++ without ns fields.now))) }

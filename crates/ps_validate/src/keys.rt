@@ -1,6 +1,6 @@
 // Keys: expressions whose names don't matter.
 ghost use Rattle.std.specs.Prelude.{◌≡◌, ◌≤◌, ◌+◌, ◌↔◌, ◌∷◌, Err, IfErr, IfOk, IsTrue, List, MatchOption, OnErr, Some, map};
-ghost use Rattle.std.specs.HashSet.{contains_text};
+ghost use Rattle.std.specs.BTreeSet.{contains_text};
 ghost use Rattle.std.specs.List.{AllByRecursion};
 ghost use Rattle.ps_frame.specs.Trees.{IsComplete, IsExpression, Tree, tree_at};
 ghost use Rattle.ps_frame.specs.Typing.{kind_over};
@@ -18,7 +18,7 @@ use ps_meaning::options::ExprIR;
 use ps_typing::kinds::type_expr;
 use pu_base::{Arena, Node, PlSmallStr, Steps};
 use std::alloc::Global;
-use std::collections::HashSet;
+use std::collections::BTreeSet;
 use std::sync::ledger::Ledger;
 
 /// The kinds of keys over a schema.
@@ -80,12 +80,13 @@ pub fn column_names(
     alloc: Global,
     keys: &[ExprIR],
     arena: &Arena<AExpr>,
-) -> PolarsResult<HashSet<String>>
+) -> PolarsResult<BTreeSet<String>>
     requires { AllByRecursion IsComplete (key_trees (tree_at arena.now.items) keys.now) }
     ensures names { IfOk result (λ names. (n : Name) → contains_text names n ≡ is_among n (bare_names (key_trees (tree_at arena.now.items) keys.now))) }
     ensures memory { OnErr result (result ≡ Err PolarsError.OutOfMemory) }
 {
-    let mut names = HashSet::new(alloc);
+    // In order, since a set by hashes would be slow at names that were chosen for it.
+    let mut names = BTreeSet::new(alloc);
     for key in keys {
         if let Some(name) = column_name(key.node, arena) {
             let name = String::from_str(alloc, name.as_str())?;

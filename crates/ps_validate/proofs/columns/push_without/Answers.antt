@@ -1,5 +1,5 @@
 use Rattle.std.proofs.Common.{◌+◌, ◌++◌, drop, sym, ◌∙◌, ap, subst}
-use Rattle.std.specs.HashSet.{contains_text}
+use Rattle.std.specs.BTreeSet.{contains_text}
 use Rattle.ps_frame.specs.Tables.{Fields}
 use Rattle.ps_meaning.specs.Schemas.{names_of, without}
 use Rattle.ps_validate.proofs.Pushing.{Pushing, push-none, push-one, push-refused-one, without-none, without-one}

@@ -1,5 +1,5 @@
 use Rattle.std.proofs.Common.{◌≡◌, List}
-use Rattle.std.specs.HashSet.{contains_text}
+use Rattle.std.specs.BTreeSet.{contains_text}
 use Rattle.ps_meaning.specs.Schemas.{is_among, without}
 use Rattle.ps_meaning.specs.Steps.{Name}
 use Rattle.ps_validate.proofs.Pushing.{Pushing}

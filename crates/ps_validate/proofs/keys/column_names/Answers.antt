@@ -5,8 +5,8 @@ use Rattle.ps_validate.proofs.BareNames.{bare-next, bare-skip, later-complete}
 use Rattle.ps_validate.proofs.keys.column_names.Goals as goal
 use Rattle.ps_validate.proofs.keys.column_names.Goals.{in-Some+in_ok-name+in_ok-insert, in_default}
 use Rattle.std.proofs.Common.{◌∙◌, ap, drop, true, cond}
-use Rattle.std.proofs.lemmas.Map.Text.{hash_set_updates_text}
-use Rattle.std.specs.HashSet.{contains_text}
+use Rattle.std.proofs.lemmas.Map.Text.{btree_set_updates_text}
+use Rattle.std.specs.BTreeSet.{contains_text}
 use Rattle.std.specs.Prelude.{Bool, ◌||◌, string_bytes}
 use Rattle.std.specs.Str.{bytes_eq}
 
@@ -17,7 +17,7 @@ loop-key-preserved c =
       | in-Some+in_ok-name+in_ok-insert w ↦ record {
         complete = later-complete (tree_at c.args.arena.now.items) c.args.keys.now c.loop-key.key-index c.key-item.result c.loop-key-test.true c.key-item.is c.loop-key.invariant.complete;
         names = bare-next (tree_at c.args.arena.now.items) c.args.keys.now c.loop-key.key-index c.key-item.result c.loop-key-test.true c.key-item.is w.in-Some.name.now (contains_text c.loop-key.names) (contains_text c.match-column_name.names) whole w.in-Some.ensures
-            (λ n. ap (λ s. contains_text s n) w.names-is ∙ hash_set_updates_text (string_bytes w.in_ok-name.name) c.loop-key.names w.insert.new.self true w.in_ok-insert.ensures.updates n ∙ ap (λ (m : Name). cond (bytes_eq m n) true (contains_text c.loop-key.names n)) (w.in_ok-name.ensures.ok ∙ w.as_str.ensures)) c.loop-key.invariant.names;
+            (λ n. ap (λ s. contains_text s n) w.names-is ∙ btree_set_updates_text (string_bytes w.in_ok-name.name) c.loop-key.names w.insert.new.self true w.in_ok-insert.ensures.updates n ∙ ap (λ (m : Name). cond (bytes_eq m n) true (contains_text c.loop-key.names n)) (w.in_ok-name.ensures.ok ∙ w.as_str.ensures)) c.loop-key.invariant.names;
       }
       | in_default w ↦ record {
         complete = later-complete (tree_at c.args.arena.now.items) c.args.keys.now c.loop-key.key-index c.key-item.result c.loop-key-test.true c.key-item.is c.loop-key.invariant.complete;
