@@ -3,10 +3,13 @@ pub mod AtPlaces
 pub mod Evaluating
 pub mod KeptRows
 pub mod LaneRows
+pub mod LastFirst
 pub mod Operated
 pub mod Operators
 pub mod Parts
+pub mod Remembering
 pub mod Standing
 pub mod Taking
+pub mod Walking
 pub mod WholeOperands
 pub mod Zips

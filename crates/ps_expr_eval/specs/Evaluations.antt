@@ -1,12 +1,12 @@
 -- What is computed of expressions.
-use Rattle.std.specs.Prelude.{◌≡◌, ⊤, ℕ, List, [], ◌∷◌, IsSome, IsTrue, Some}
+use Rattle.std.specs.Prelude.{◌≡◌, ⊤, ℕ, List, [], ◌∷◌, IsSome, Option, Some, None}
 use Rattle.ps_expr_eval.specs.Held.{Keeps}
 use Rattle.ps_expr_eval.specs.Wholes.{aggregated_of}
 use Rattle.ps_expr_eval.specs.declared.computed.ComputedColumn.{ComputedColumn}
 use Rattle.ps_frame.specs.Eval.{eval}
-use Rattle.ps_frame.specs.Tables.{Fields, Frame, field_kind, whole}
-use Rattle.ps_frame.specs.Trees.{Tree, Trees, trees_of}
-use Rattle.ps_frame.specs.Typing.{have_kinds, kind_over}
+use Rattle.ps_frame.specs.Tables.{Fields, Frame, whole}
+use Rattle.ps_frame.specs.Trees.{IsComplete, Tree, Trees}
+use Rattle.ps_frame.specs.Typing.{kind_over}
 use Rattle.ps_frame.specs.declared.expr.AExpr.{AExpr}
 use Rattle.ps_frame.specs.declared.expr.AExpr.TheVariants as entry
 use Rattle.pu_base.specs.declared.arena.Node.{Node}
@@ -22,19 +22,34 @@ EvaluateAll table Trees.no_trees [] = ⊤
 EvaluateAll table (Trees.tree t ts) (p ∷ ps) = Evaluates table t p × EvaluateAll table ts ps
 EvaluateAll table _ _ = ⊥
 
--- what an entry takes has a kind
-abbrev pub TakesKinds : Fields → (Node → Tree) → AExpr → Type 0
-TakesKinds schema f (entry.Column name) = IsSome (field_kind name schema)
-TakesKinds schema f (entry.Literal l) = ⊤
-TakesKinds schema f (entry.BinaryExpr l o r) = IsSome (kind_over schema (f l)) × IsSome (kind_over schema (f r))
-TakesKinds schema f (entry.Cast e k strict) = IsSome (kind_over schema (f e))
-TakesKinds schema f (entry.Sort e d n) = IsSome (kind_over schema (f e))
-TakesKinds schema f (entry.SortBy e by d n) = IsSome (kind_over schema (f e)) × IsTrue (have_kinds schema (trees_of f by))
-TakesKinds schema f (entry.Gather e i s) = IsSome (kind_over schema (f e)) × IsSome (kind_over schema (f i))
-TakesKinds schema f (entry.Filter e by) = IsSome (kind_over schema (f e)) × IsSome (kind_over schema (f by))
-TakesKinds schema f (entry.Agg a) = IsSome (kind_over schema (f (aggregated_of a)))
-TakesKinds schema f (entry.Ternary p a b) = IsSome (kind_over schema (f p)) × IsSome (kind_over schema (f a)) × IsSome (kind_over schema (f b))
-TakesKinds schema f (entry.Function e g) = IsSome (kind_over schema (f e))
-TakesKinds schema f (entry.Slice e o l) = IsSome (kind_over schema (f e)) × IsSome (kind_over schema (f o)) × IsSome (kind_over schema (f l))
-TakesKinds schema f entry.Len = ⊤
-TakesKinds schema f (entry.LeftOut w) = ⊥
+-- the entries that an entry takes, in order
+abbrev pub operands_of : AExpr → List Node
+operands_of (entry.Column name) = []
+operands_of (entry.Literal l) = []
+operands_of (entry.BinaryExpr l o r) = l ∷ r ∷ []
+operands_of (entry.Cast e k strict) = e ∷ []
+operands_of (entry.Sort e d n) = e ∷ []
+operands_of (entry.SortBy e by d n) = e ∷ by
+operands_of (entry.Gather e i s) = e ∷ i ∷ []
+operands_of (entry.Filter e by) = e ∷ by ∷ []
+operands_of (entry.Agg a) = aggregated_of a ∷ []
+operands_of (entry.Ternary p a b) = p ∷ a ∷ b ∷ []
+operands_of (entry.Function e g) = e ∷ []
+operands_of (entry.Slice e o l) = e ∷ o ∷ l ∷ []
+operands_of entry.Len = []
+operands_of (entry.LeftOut w) = []
+
+-- the same of the entry of a number
+abbrev pub operands_in : Option AExpr → List Node
+operands_in None = []
+operands_in (Some e) = operands_of e
+
+-- nothing is missing in an expression, and it has a kind over a schema
+pub record IsTyped (schema : Fields) (t : Tree) : Type 0 where
+  pub complete : IsComplete t
+  pub kind : IsSome (kind_over schema t)
+
+-- the same of several expressions
+abbrev pub AreTyped : Fields → (Node → Tree) → List Node → Type 0
+AreTyped schema f [] = ⊤
+AreTyped schema f (n ∷ ns) = IsTyped schema (f n) × AreTyped schema f ns

@@ -6,3 +6,4 @@ pub mod Wholes
 pub mod Evaluations
 pub mod Lanes
 pub mod Operands
+pub mod Walks

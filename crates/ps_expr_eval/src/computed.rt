@@ -73,6 +73,18 @@ impl Values {
         }
     }
 
+    /// Equal values; those of a column stay shared.
+    ///
+    /// Fails only for want of memory.
+    pub fn copy(&self, alloc: Global) -> Result<Values, AllocError>
+        ensures { IfOk result (λ copy. values_of copy ≡ values_of self.now) }
+    {
+        match self {
+            Values::Shared(column) => Ok(Values::Shared(shared_column(alloc, column)?)),
+            Values::Owned(values) => Ok(Values::Owned(copy_all(alloc, values.as_slice())?)),
+        }
+    }
+
     /// Values of their own; shared ones are copied.
     ///
     /// Fails only for want of memory.
@@ -109,6 +121,17 @@ impl ValueList for Values {
 
     fn value(&self, i: usize) -> &Value {
         self.value(i)
+    }
+}
+
+// The same column, which shares its values.
+fn shared_column(alloc: Global, column: &Column) -> Result<Column, AllocError>
+    ensures { IfOk result (λ c. c ≡ column.now) }
+{
+    match column.share(alloc) {
+        Ok(column) => Ok(column),
+        // It fails for want of memory alone.
+        Err(_) => Err(AllocError),
     }
 }
 
@@ -234,6 +257,18 @@ impl Cells {
         }
     }
 
+    /// Equal cells; values of a column stay shared.
+    ///
+    /// Fails only for want of memory.
+    pub fn copy(&self, alloc: Global) -> Result<Cells, AllocError>
+        ensures { IfOk result (λ copy. cells_of copy ≡ cells_of self.now) }
+    {
+        match self {
+            Cells::Whole(values) => Ok(Cells::Whole(values.copy(alloc)?)),
+            Cells::Mixed(cells) => Ok(Cells::Mixed(copy_cells(alloc, cells.as_slice())?)),
+        }
+    }
+
     /// The values, where no cell is faulty and they lie in one run.
     pub fn view(&self) -> Option<ColumnView<'_>>
         ensures { IfSome result (λ values. cells_of self.now ≡ map held.Val values) }
@@ -255,6 +290,25 @@ impl Cells {
             Cells::Whole(values) => Ok(values.value(i)),
             Cells::Mixed(cells) => seen(&cells[i]),
         }
+    }
+}
+
+fn copy_cells(alloc: Global, cells: &[Cell]) -> Result<Vec<Cell>, AllocError>
+    ensures { IfOk result (λ copies. copies.items ≡ cells.now) }
+{
+    let mut copies = Vec::with_capacity(alloc, cells.len())?;
+    for cell in cells {
+        copies.push(copy_cell(alloc, cell)?)?;
+    }
+    Ok(copies)
+}
+
+fn copy_cell(alloc: Global, cell: &Cell) -> Result<Cell, AllocError>
+    ensures { IfOk result (λ copy. copy ≡ cell.now) }
+{
+    match cell {
+        Cell::Val(value) => Ok(Cell::Val(copy_of(alloc, value)?)),
+        Cell::Bad(fault) => Ok(Cell::Bad(*fault)),
     }
 }
 
@@ -291,6 +345,21 @@ impl ComputedColumn {
         ensures { result ≡ repeats_in self.now }
     {
         self.ending().repeats()
+    }
+
+    /// An equal column, whose values stay shared where they are those of another one.
+    ///
+    /// Fails only for want of memory.
+    pub fn copy(&self, alloc: Global) -> Result<ComputedColumn, AllocError>
+        ensures kind { IfOk result (λ copy. copy.dtype ≡ self.now.dtype) }
+        ensures cells { IfOk result (λ copy. cells_of copy.cells ≡ cells_of self.now.cells) }
+        ensures fault { IfOk result (λ copy. copy.fault ≡ self.now.fault) }
+    {
+        Ok(ComputedColumn {
+            dtype: self.dtype,
+            cells: self.cells.copy(alloc)?,
+            fault: self.fault,
+        })
     }
 
     /// Its values where nothing is faulty, and else one of its faults.

@@ -1,46 +1,60 @@
 // The column of an expression over a table.
-ghost use Rattle.std.specs.Prelude.{◌≡◌, ℕ, Err, IfOk, IsSome, IsTrue, OnErr, Some, option_to_list};
+ghost use Rattle.std.specs.Prelude.{◌≡◌, ◌<◌, ◌+◌, ◌*◌, ◌∷◌, ◌++◌, ℕ, suc, List, map, reverse, slice_get, Err, IfOk, IsSome, OnErr, OnOk, Some, option_to_list};
+ghost use Rattle.ps_expr_eval.specs.Evaluations.{AreTyped, EvaluateAll, Evaluates, IsTyped, operands_of};
 ghost use Rattle.ps_expr_eval.specs.Held.{Keeps, cells_of};
+ghost use Rattle.ps_expr_eval.specs.Walks.{Proceeds, operands_at, steps_left};
+ghost use Rattle.ps_expr_eval.specs.declared.evaluate.Work.{Work as AWork};
+ghost use Rattle.ps_expr_eval.specs.declared.evaluate.Work.TheVariants as work;
 ghost use Rattle.ps_frame.specs.Causes.{Column as AColumn};
 ghost use Rattle.ps_frame.specs.Eval.{eval};
 ghost use Rattle.ps_frame.specs.Evaluated.{StandsFor};
 ghost use Rattle.ps_frame.specs.Tables.{whole};
-ghost use Rattle.ps_expr_eval.specs.Evaluations.{EvaluateAll, Evaluates, TakesKinds};
-ghost use Rattle.ps_frame.specs.Trees.{AreComplete, IsComplete, IsExpression, entry_tree, tree_at, tree_size, trees_of};
-ghost use Rattle.ps_frame.specs.Typing.{have_kinds, kind_over};
+ghost use Rattle.ps_frame.specs.Trees.{IsExpression, entry_tree, tree_at, tree_size, trees_of, trees_size};
+ghost use Rattle.ps_frame.specs.Typing.{kind_over};
+ghost use Rattle.pu_base.specs.declared.arena.Node.{Node as ANode};
 
-use crate::aggregate::{aggregated, aggregated_part};
+use crate::aggregate::aggregated_part;
 use crate::computed::ComputedColumn;
 use crate::elementwise::{Unary, binary_part, ternary_part, unary_part};
 use crate::filter::kept_part;
+use crate::operands::{all_three, both, count_operands, one_and_others, only, operands, take_last};
+use crate::shared::SharedColumns;
 use crate::sort_by::sorted_by_part;
 use crate::sources::{column_part, count_part, literal_part};
 use crate::whole::{function_part, gathered_part, sliced_part, sorted_part};
-use ps_frame::expr::{AExpr, entry};
+use ps_frame::expr::AExpr;
 use ps_frame::frame::DataFrame;
 use ps_frame::refusal::{PolarsError, PolarsResult};
 use ps_frame::value::{DataFault, Evaluated};
 use pu_base::{Arena, Node};
 use std::alloc::{AllocError, Global};
 
-/// The entry of an expression that has a kind over the table, and so have the expressions that it takes.
+/// The entry of an expression that has a kind over a table, and so have the expressions that it takes.
 fn typed_entry<'a>(expr: Node, arena: &'a Arena<AExpr>, df: &DataFrame) -> &'a AExpr
-    requires expression { IsExpression arena.now.items expr }
-    requires kind { IsSome (kind_over df.now.schema (tree_at arena.now.items expr)) }
+    requires { IsTyped df.now.schema (tree_at arena.now.items expr) }
+    ensures entry { slice_get arena.now.items expr.0 ≡ Some result.now }
     ensures tree { tree_at arena.now.items expr ≡ entry_tree (tree_at arena.now.items) (Some result.now) }
-    ensures complete { IsComplete (entry_tree (tree_at arena.now.items) (Some result.now)) }
-    ensures size { tree_size (tree_at arena.now.items expr) ≡ tree_size (entry_tree (tree_at arena.now.items) (Some result.now)) }
-    ensures kinds { TakesKinds df.now.schema (tree_at arena.now.items) result.now }
+    ensures size { tree_size (tree_at arena.now.items expr) ≡ suc (trees_size (trees_of (tree_at arena.now.items) (operands_of result.now))) }
+    ensures typed { AreTyped df.now.schema (tree_at arena.now.items) (operands_of result.now) }
 {
     // The table is read, for then it is known that its rows fit its schema.
     let _schema = df.schema();
-    entry(expr, arena)
+    arena.get(expr)
 }
 
-/// The column of an expression over a table, as it is computed.
+/// A step of the walk over an expression.
+#[derive(Clone, Copy, Drop)]
+pub enum Work {
+    /// The column of the entry is to be found among those that are kept, or else to be computed.
+    Visit(Node),
+    /// It is to be computed of the columns that were put down last.
+    Compute(Node),
+}
+
+/// The column of an expression over a table, as it is computed. What stands in the expression more
+/// than once under one number is computed once.
 ///
-/// Fails only for want of memory.
-#[cycle(evaluation)]
+/// It walks with a list of its own, since an expression may be deep. Fails only for want of memory.
 pub fn part_of(
     alloc: Global,
     expr: Node,
@@ -51,42 +65,140 @@ pub fn part_of(
     requires kind { IsSome (kind_over df.now.schema (tree_at arena.now.items expr)) }
     ensures { IfOk result (Evaluates df.now (tree_at arena.now.items expr)) }
 {
+    let mut shared = SharedColumns::new(alloc, expr, arena)?;
+    let mut columns = Vec::new(alloc);
+    let mut left = Vec::new(alloc);
+    left.push(Work::Visit(expr))?;
+    while let Some(next) = left.pop() {
+        step(alloc, next, arena, df, &mut left, &mut columns, &mut shared)?;
+    }
+    Ok(only(columns))
+}
+
+// Does what comes next.
+fn step(
+    alloc: Global,
+    next: Work,
+    arena: &Arena<AExpr>,
+    df: &DataFrame,
+    left: &mut Vec<Work>,
+    columns: &mut Vec<ComputedColumn>,
+    shared: &mut SharedColumns,
+) -> Result<(), AllocError>
+    requires { (one : ANode) × Proceeds df.now arena.now.items one (next ∷ reverse left.old.items) columns.old.items shared.old }
+    ensures proceeds { (one : ANode) → Proceeds df.now arena.now.items one (next ∷ reverse left.old.items) columns.old.items shared.old → OnOk result (Proceeds df.now arena.now.items one (reverse left.new.items) columns.new.items shared.new) }
+    ensures smaller { OnOk result (steps_left (tree_at arena.now.items) (reverse left.new.items) < steps_left (tree_at arena.now.items) (next ∷ reverse left.old.items)) }
+{
+    match next {
+        Work::Visit(node) => visit(alloc, node, arena, df, left, columns, shared),
+        Work::Compute(node) => compute(alloc, node, arena, df, columns, shared),
+    }
+}
+
+// Puts down the column of an entry, or what is to be done for it.
+fn visit(
+    alloc: Global,
+    expr: Node,
+    arena: &Arena<AExpr>,
+    df: &DataFrame,
+    left: &mut Vec<Work>,
+    columns: &mut Vec<ComputedColumn>,
+    shared: &mut SharedColumns,
+) -> Result<(), AllocError>
+    requires { IsTyped df.now.schema (tree_at arena.now.items expr) }
+    ensures proceeds { (one : ANode) → Proceeds df.now arena.now.items one (work.Visit expr ∷ reverse left.old.items) columns.old.items shared.old → OnOk result (Proceeds df.now arena.now.items one (reverse left.new.items) columns.new.items shared.new) }
+    ensures smaller { OnOk result (steps_left (tree_at arena.now.items) (reverse left.new.items) < 2 * tree_size (tree_at arena.now.items expr) + steps_left (tree_at arena.now.items) (reverse left.old.items)) }
+{
+    let entry = typed_entry(expr, arena, df);
+    let kept = shared.take(alloc, expr)?;
+    match kept {
+        Some(column) => {
+            columns.push(column)?;
+            Ok(())
+        }
+        None => {
+            left.push(Work::Compute(expr))?;
+            let nodes = operands(alloc, entry)?;
+            push_visits(left, nodes)?;
+            Ok(())
+        }
+    }
+}
+
+// Puts visits of entries down, so that the first comes next.
+fn push_visits(left: &mut Vec<Work>, mut nodes: Vec<Node>) -> Result<(), AllocError>
+    ensures { OnOk result (reverse left.new.items ≡ map work.Visit nodes.items ++ reverse left.old.items) }
+{
+    while let Some(node) = nodes.pop() {
+        left.push(Work::Visit(node))?;
+    }
+    Ok(())
+}
+
+// Takes the columns of what an entry takes, and puts the entry's column down.
+fn compute(
+    alloc: Global,
+    expr: Node,
+    arena: &Arena<AExpr>,
+    df: &DataFrame,
+    columns: &mut Vec<ComputedColumn>,
+    shared: &mut SharedColumns,
+) -> Result<(), AllocError>
+    requires typed { IsTyped df.now.schema (tree_at arena.now.items expr) }
+    requires waiting { (below : List ANode) × EvaluateAll df.now (trees_of (tree_at arena.now.items) (below ++ operands_at arena.now.items expr)) columns.old.items }
+    ensures { (one : ANode) (left : List AWork) → Proceeds df.now arena.now.items one (work.Compute expr ∷ left) columns.old.items shared.old → OnOk result (Proceeds df.now arena.now.items one left columns.new.items shared.new) }
+{
+    let entry = typed_entry(expr, arena, df);
+    let taken = take_last(alloc, columns, count_operands(entry))?;
+    let column = entry_part(alloc, expr, arena, df, taken)?;
+    shared.keep(alloc, expr, &column)?;
+    columns.push(column)?;
+    Ok(())
+}
+
+/// The column of an entry, of the columns of what it takes.
+///
+/// Fails only for want of memory.
+fn entry_part(
+    alloc: Global,
+    expr: Node,
+    arena: &Arena<AExpr>,
+    df: &DataFrame,
+    taken: Vec<ComputedColumn>,
+) -> Result<ComputedColumn, AllocError>
+    requires typed { IsTyped df.now.schema (tree_at arena.now.items expr) }
+    requires taken { EvaluateAll df.now (trees_of (tree_at arena.now.items) (operands_at arena.now.items expr)) taken.items }
+    ensures { IfOk result (Evaluates df.now (tree_at arena.now.items expr)) }
+{
     match typed_entry(expr, arena, df) {
         AExpr::Column(name) => column_part(alloc, name, df),
         AExpr::Literal(literal) => literal_part(alloc, literal),
-        AExpr::BinaryExpr { left, op, right } => {
-            let left = part_of(alloc, *left, arena, df)?;
-            let right = part_of(alloc, *right, arena, df)?;
+        AExpr::BinaryExpr { op, .. } => {
+            let (left, right) = both(taken);
             binary_part(alloc, *op, &left, &right)
         }
-        AExpr::Cast {
-            expr,
-            dtype,
-            strict,
-        } => {
-            let input = part_of(alloc, *expr, arena, df)?;
+        AExpr::Cast { dtype, strict, .. } => {
             let cast = Unary::Cast {
                 dtype: *dtype,
                 strict: *strict,
             };
+            let input = only(taken);
             unary_part(alloc, cast, &input)
         }
         AExpr::Sort {
-            expr,
             descending,
             nulls_last,
+            ..
         } => {
-            let input = part_of(alloc, *expr, arena, df)?;
+            let input = only(taken);
             sorted_part(alloc, *descending, *nulls_last, input)
         }
         AExpr::SortBy {
-            expr,
-            by,
             descending,
             nulls_last,
+            ..
         } => {
-            let input = part_of(alloc, *expr, arena, df)?;
-            let keys = parts_of(alloc, by.as_slice(), arena, df)?;
+            let (input, keys) = one_and_others(taken);
             sorted_by_part(
                 alloc,
                 descending.as_slice(),
@@ -95,70 +207,33 @@ pub fn part_of(
                 keys,
             )
         }
-        AExpr::Gather {
-            expr,
-            idx,
-            returns_scalar: _,
-        } => {
-            let input = part_of(alloc, *expr, arena, df)?;
-            let indices = part_of(alloc, *idx, arena, df)?;
+        AExpr::Gather { .. } => {
+            let (input, indices) = both(taken);
             gathered_part(alloc, input, indices)
         }
-        AExpr::Filter { input, by } => {
-            let input = part_of(alloc, *input, arena, df)?;
-            let by = part_of(alloc, *by, arena, df)?;
+        AExpr::Filter { .. } => {
+            let (input, by) = both(taken);
             kept_part(alloc, &input, &by)
         }
         AExpr::Agg(aggregate) => {
-            let input = part_of(alloc, aggregated(*aggregate), arena, df)?;
+            let input = only(taken);
             aggregated_part(alloc, *aggregate, input)
         }
-        AExpr::Ternary {
-            predicate,
-            truthy,
-            falsy,
-        } => {
-            let predicate = part_of(alloc, *predicate, arena, df)?;
-            let truthy = part_of(alloc, *truthy, arena, df)?;
-            let falsy = part_of(alloc, *falsy, arena, df)?;
+        AExpr::Ternary { .. } => {
+            let (predicate, truthy, falsy) = all_three(taken);
             ternary_part(alloc, &predicate, &truthy, &falsy)
         }
-        AExpr::Function { input, function } => {
-            let input = part_of(alloc, *input, arena, df)?;
+        AExpr::Function { function, .. } => {
+            let input = only(taken);
             function_part(alloc, *function, input)
         }
-        AExpr::Slice {
-            input,
-            offset,
-            length,
-        } => {
-            let input = part_of(alloc, *input, arena, df)?;
-            let offset = part_of(alloc, *offset, arena, df)?;
-            let length = part_of(alloc, *length, arena, df)?;
+        AExpr::Slice { .. } => {
+            let (input, offset, length) = all_three(taken);
             sliced_part(alloc, input, offset, length)
         }
         AExpr::Len => count_part(alloc, df.height()),
         AExpr::LeftOut(_) => unreachable!(),
     }
-}
-
-/// The columns of several expressions over a table.
-#[cycle(evaluation)]
-fn parts_of(
-    alloc: Global,
-    exprs: &[Node],
-    arena: &Arena<AExpr>,
-    df: &DataFrame,
-) -> Result<Vec<ComputedColumn>, AllocError>
-    requires expressions { AreComplete (trees_of (tree_at arena.now.items) exprs.now) }
-    requires kinds { IsTrue (have_kinds df.now.schema (trees_of (tree_at arena.now.items) exprs.now)) }
-    ensures { IfOk result (λ parts. EvaluateAll df.now (trees_of (tree_at arena.now.items) exprs.now) parts.items) }
-{
-    let mut parts = Vec::with_capacity(alloc, exprs.len())?;
-    for expr in exprs {
-        parts.push(part_of(alloc, *expr, arena, df)?)?;
-    }
-    Ok(parts)
 }
 
 /// The column of an expression over a table.

@@ -1,0 +1,154 @@
+-- Each step of the walk over an expression keeps what the walk is to leave.
+use Rattle.std.proofs.Common.{◌≡◌, ℕ, suc, ◌+◌, ◌*◌, ◌<◌, ◌≤◌, List, [], ◌∷◌, ◌++◌, length, refl, subst, sym, ◌∙◌, ap, append_assoc, arith}
+use Rattle.std.specs.Prelude.{map, reverse, slice_get, OnOk, Option, Some, Result, Ok, Err}
+use Rattle.std.proofs.lemmas.List.{length-append, append-nil, nil_from_length}
+use Rattle.ps_expr_eval.proofs.LastFirst.{reverse-last}
+use Rattle.ps_expr_eval.specs.Evaluations.{AreTyped, EvaluateAll, Evaluates, IsTyped, operands_in, operands_of}
+use Rattle.ps_expr_eval.specs.Held.{IsOneOf, Keeps, cells_of}
+use Rattle.ps_expr_eval.specs.Walks.{AreTypedWork, Leaves, Proceeds, Remembers, operands_at, steps_left}
+use Rattle.ps_expr_eval.specs.declared.computed.ComputedColumn.{ComputedColumn}
+use Rattle.ps_expr_eval.specs.declared.evaluate.Work.{Work}
+use Rattle.ps_expr_eval.specs.declared.evaluate.Work.TheVariants.{Visit, Compute}
+use Rattle.ps_expr_eval.specs.declared.shared.SharedColumns.{SharedColumns}
+use Rattle.ps_frame.specs.Eval.{eval}
+use Rattle.ps_frame.specs.Tables.{Fields, Frame, whole}
+use Rattle.ps_frame.specs.Trees.{Tree, tree_at, tree_size, trees_of, trees_size}
+use Rattle.ps_frame.specs.declared.expr.AExpr.{AExpr}
+use Rattle.pu_base.specs.declared.arena.Node.{Node}
+
+-- a copy is computed of the same expression
+pub copy-evaluates : (t : Frame) (tree : Tree) (p q : ComputedColumn) → q.dtype ≡ p.dtype → cells_of q.cells ≡ cells_of p.cells → q.fault ≡ p.fault → Evaluates t tree p → Evaluates t tree q
+copy-evaluates t tree p q kind cells fault e = record {
+  keeps = λ node. record {
+    cells = cells ∙ (e.keeps node).cells;
+    ended = subst (IsOneOf (eval node (whole t) tree).broken) (sym fault) (e.keeps node).ended;
+  };
+  kind = e.kind ∙ ap Some (sym kind);
+}
+
+-- as many columns as entries
+pub as-many : (t : Frame) (f : Node → Tree) (ns : List Node) (ps : List ComputedColumn) → EvaluateAll t (trees_of f ns) ps → length ps ≡ length ns
+as-many t f [] [] h = refl
+as-many t f [] (p ∷ ps) h = absurd h
+as-many t f (n ∷ ns) [] h = absurd h
+as-many t f (n ∷ ns) (p ∷ ps) h = ap (λ k. suc k) (as-many t f ns ps h.1)
+
+all-push : (t : Frame) (f : Node → Tree) (ns : List Node) (n : Node) (ps : List ComputedColumn) (p : ComputedColumn) → EvaluateAll t (trees_of f ns) ps → Evaluates t (f n) p → EvaluateAll t (trees_of f (ns ++ n ∷ [])) (ps ++ p ∷ [])
+all-push t f [] n [] p h e = (e, tt)
+all-push t f [] n (q ∷ ps) p h e = absurd h
+all-push t f (m ∷ ns) n [] p h e = absurd h
+all-push t f (m ∷ ns) n (q ∷ ps) p h e = (h.0, all-push t f ns n ps p h.1 e)
+
+-- the columns of a list of entries and then of another
+two-lists : (t : Frame) (f : Node → Tree) (ns os : List Node) (qs rs : List ComputedColumn) → length rs ≡ length os → EvaluateAll t (trees_of f (ns ++ os)) (qs ++ rs) → EvaluateAll t (trees_of f ns) qs × EvaluateAll t (trees_of f os) rs
+two-lists t f [] os [] rs e h = (tt, h)
+two-lists t f [] os (q ∷ qs) rs e h = let n = as-many t f os (q ∷ (qs ++ rs)) h in absurd (omega (arith, n, e, length-append qs rs))
+two-lists t f (n ∷ ns) os [] rs e h = let k = as-many t f (n ∷ (ns ++ os)) rs h in absurd (omega (arith, k, e, length-append ns os))
+two-lists t f (n ∷ ns) os (q ∷ qs) rs e h = let rest = two-lists t f ns os qs rs e h.1 in ((h.0, rest.0), rest.1)
+
+pub taken-evaluate : (t : Frame) (f : Node → Tree) (ns os : List Node) (ps qs rs : List ComputedColumn) → ps ≡ qs ++ rs → length rs ≡ length os → EvaluateAll t (trees_of f (ns ++ os)) ps → EvaluateAll t (trees_of f os) rs
+taken-evaluate t f ns os ps qs rs is e h = (two-lists t f ns os qs rs e (subst (EvaluateAll t (trees_of f (ns ++ os))) is h)).1
+
+pub enough : (t : Frame) (f : Node → Tree) (ns os : List Node) (ps : List ComputedColumn) → EvaluateAll t (trees_of f (ns ++ os)) ps → length os ≤ length ps
+enough t f ns os ps h = let n = as-many t f (ns ++ os) ps h in omega (arith, n, length-append ns os)
+
+-- the same columns of the same entries
+pub these-evaluate : (t : Frame) (f : Node → Tree) (ns ms : List Node) (ps qs : List ComputedColumn) → ns ≡ ms → ps ≡ qs → EvaluateAll t (trees_of f ns) ps → EvaluateAll t (trees_of f ms) qs
+these-evaluate t f ns ms ps qs e g h = subst (λ (ns : List Node). EvaluateAll t (trees_of f ns) qs) e (subst (EvaluateAll t (trees_of f ns)) g h)
+
+pub these-many : (t : Frame) (f : Node → Tree) (ns ms : List Node) (ps : List ComputedColumn) → ns ≡ ms → EvaluateAll t (trees_of f ns) ps → length ps ≡ length ms
+these-many t f ns ms ps e h = as-many t f ns ps h ∙ ap length e
+
+pub operands-are : (arena : List AExpr) (n : Node) (e x : AExpr) → slice_get arena n.0 ≡ Some e → e ≡ x → operands_at arena n ≡ operands_of x
+operands-are arena n e x h is = ap operands_in h ∙ ap operands_of is
+
+-- visits of entries put down their columns
+leaves-visits : (takes : Node → List Node) (one : Node) (left : List Work) (os ns : List Node) → Leaves takes one left (ns ++ os) → Leaves takes one (map Visit os ++ left) ns
+leaves-visits takes one left [] ns h = subst (Leaves takes one left) (append-nil ns) h
+leaves-visits takes one left (o ∷ os) ns h = leaves-visits takes one left os (ns ++ o ∷ []) (subst (Leaves takes one left) (sym (append_assoc ns (o ∷ []) os)) h)
+
+typed-visits : (s : Fields) (f : Node → Tree) (os : List Node) (left : List Work) → AreTyped s f os → AreTypedWork s f left → AreTypedWork s f (map Visit os ++ left)
+typed-visits s f [] left h k = k
+typed-visits s f (o ∷ os) left h k = (h.0, typed-visits s f os left h.1 k)
+
+pub visits-steps : (f : Node → Tree) (os : List Node) (left : List Work) → steps_left f (map Visit os ++ left) ≡ 2 * trees_size (trees_of f os) + steps_left f left
+visits-steps f [] left = omega arith
+visits-steps f (o ∷ os) left = let rest = visits-steps f os left in omega (arith, rest)
+
+-- the steps
+pub starts : (t : Frame) (a : List AExpr) (e : Node) (m : SharedColumns) → IsTyped t.schema (tree_at a e) → Remembers t a m → Proceeds t a e (Visit e ∷ []) [] m
+starts t a e m typed known = record { waiting = []; leaves = refl; evaluated = tt; typed = (typed, tt); remembered = known }
+
+pub found : (t : Frame) (a : List AExpr) (one n : Node) (left : List Work) (ps : List ComputedColumn) (p : ComputedColumn) (m o : SharedColumns) → Evaluates t (tree_at a n) p → Remembers t a o
+    → Proceeds t a one (Visit n ∷ left) ps m → Proceeds t a one left (ps ++ p ∷ []) o
+found t a one n left ps p m o e known h = record {
+  waiting = h.waiting ++ n ∷ [];
+  leaves = h.leaves;
+  evaluated = all-push t (tree_at a) h.waiting n ps p h.evaluated e;
+  typed = h.typed.1;
+  remembered = known;
+}
+
+pub visited : (t : Frame) (a : List AExpr) (one n : Node) (left : List Work) (ps : List ComputedColumn) (m o : SharedColumns) → AreTyped t.schema (tree_at a) (operands_at a n) → Remembers t a o
+    → Proceeds t a one (Visit n ∷ left) ps m → Proceeds t a one (map Visit (operands_at a n) ++ Compute n ∷ left) ps o
+visited t a one n left ps m o typed known h = record {
+  waiting = h.waiting;
+  leaves = leaves-visits (operands_at a) one (Compute n ∷ left) (operands_at a n) h.waiting (h.waiting, refl, h.leaves);
+  evaluated = h.evaluated;
+  typed = typed-visits t.schema (tree_at a) (operands_at a n) (Compute n ∷ left) typed (h.typed.0, h.typed.1);
+  remembered = known;
+}
+
+pub computed : (t : Frame) (a : List AExpr) (one n : Node) (left : List Work) (ps qs rs : List ComputedColumn) (p : ComputedColumn) (m o : SharedColumns) → ps ≡ qs ++ rs → length rs ≡ length (operands_at a n) → Evaluates t (tree_at a n) p → (Remembers t a m → Remembers t a o)
+    → Proceeds t a one (Compute n ∷ left) ps m → Proceeds t a one left (qs ++ p ∷ []) o
+computed t a one n left ps qs rs p m o is len e known h =
+    let below = h.leaves.0 in
+    let all = subst (λ (ns : List Node). EvaluateAll t (trees_of (tree_at a) ns) ps) h.leaves.1 h.evaluated in
+    record {
+      waiting = below ++ n ∷ [];
+      leaves = h.leaves.2;
+      evaluated = all-push t (tree_at a) below n qs p (two-lists t (tree_at a) below (operands_at a n) qs rs len (subst (EvaluateAll t (trees_of (tree_at a) (below ++ operands_at a n))) is all)).0 e;
+      typed = h.typed.1;
+      remembered = known h.remembered;
+    }
+
+pub waiting-below : (t : Frame) (a : List AExpr) (one n : Node) (left : List Work) (ps : List ComputedColumn) (m : SharedColumns) → Proceeds t a one (Compute n ∷ left) ps m → (below : List Node) × EvaluateAll t (trees_of (tree_at a) (below ++ operands_at a n)) ps
+waiting-below t a one n left ps m h = (h.leaves.0, subst (λ (ns : List Node). EvaluateAll t (trees_of (tree_at a) ns) ps) h.leaves.1 h.evaluated)
+
+pub ended-one : (t : Frame) (a : List AExpr) (one : Node) (ps : List ComputedColumn) (m : SharedColumns) → Proceeds t a one [] ps m → length ps ≡ 1
+ended-one t a one ps m h = these-many t (tree_at a) h.waiting (one ∷ []) ps h.leaves h.evaluated
+
+pub ended : (t : Frame) (a : List AExpr) (one : Node) (ps : List ComputedColumn) (p : ComputedColumn) (m : SharedColumns) → ps ≡ p ∷ [] → Proceeds t a one [] ps m → Evaluates t (tree_at a one) p
+ended t a one ps p m is h = (these-evaluate t (tree_at a) h.waiting (one ∷ []) ps (p ∷ []) h.leaves is h.evaluated).0
+
+pub first : (t : Frame) (a : List AExpr) (e : Node) (left : List Work) (ps : List ComputedColumn) (m : SharedColumns) → left ≡ Visit e ∷ [] → ps ≡ [] → IsTyped t.schema (tree_at a e) → Remembers t a m → Proceeds t a e (reverse left) ps m
+first t a e left ps m is none typed known =
+    subst (λ (ws : List Work). Proceeds t a e (reverse ws) ps m) (sym is) (subst (λ (qs : List ComputedColumn). Proceeds t a e (Visit e ∷ []) qs m) (sym none) (starts t a e m typed known))
+
+-- what comes next is taken off the end
+pub next-first : (left fewer : List Work) (w : Work) → left ≡ fewer ++ w ∷ [] → reverse left ≡ w ∷ reverse fewer
+next-first left fewer w is = ap reverse is ∙ reverse-last fewer w
+
+-- what is put down for an entry
+pub put-down : (os ns : List Node) (n : Node) (before left after : List Work) → reverse after ≡ map Visit ns ++ reverse left → ns ≡ os → left ≡ before ++ Compute n ∷ [] → reverse after ≡ map Visit os ++ Compute n ∷ reverse before
+put-down os ns n before left after is same more =
+    is ∙ ap (λ (xs : List Node). map Visit xs ++ reverse left) same ∙ ap (λ (ws : List Work). map Visit os ++ ws) (next-first left before (Compute n) more)
+
+pub fewer-steps : (f : Node → Tree) (os : List Node) (n : Node) (before ws : List Work) (size : ℕ) → ws ≡ map Visit os ++ Compute n ∷ before → size ≡ suc (trees_size (trees_of f os)) → steps_left f ws < 2 * size + steps_left f before
+fewer-steps f os n before ws size is s =
+    let e = ap (steps_left f) is ∙ visits-steps f os (Compute n ∷ before) in
+    let z = s in
+    omega (arith, e, z)
+
+pub less-one : (f : Node → Tree) (w : Work) (n : Node) (left : List Work) → w ≡ Compute n → steps_left f left < steps_left f (w ∷ left)
+less-one f w n left is = subst (λ (v : Work). steps_left f left < steps_left f (v ∷ left)) (sym is) (below-suc (steps_left f left))
+  where
+    below-suc : (k : ℕ) → k < 1 + k
+    below-suc k = omega arith
+
+pub whatever : {A E : Type 0} (r : Result A E) (P : Type 0) → P → OnOk r P
+whatever (Ok x) P p = p
+whatever (Err e) P p = tt
+
+pub drained : (left : List Work) → length left ≡ 0 → reverse left ≡ []
+drained left none = ap reverse (nil_from_length left none)
