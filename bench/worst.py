@@ -1,10 +1,9 @@
 """python3 bench/worst.py PLAN_TOOL [CASE ..]: documents below 2 MB that would take long if something grew faster than it should. Of
 each it prints the size of the document, the processor seconds and the peak memory of the whole program, and the exponent by which the
-seconds grow from half the size.
+seconds grow from half the size. The deep cases run on a stack of 256 KB.
 
-A case makes its document from a number: of rows, of keys, of names. Keys are chosen so that their hashes are equal, or lie so close
-together that a table puts all of them in one bucket: of whole numbers and pairs of them by arithmetic, of texts by a search through
-texts of 32 letters."""
+A case makes its document from a number: of rows, of keys, of names, of operators. Keys are chosen so that their hashes are equal, or lie
+so close together that a table puts all of them in one bucket."""
 import itertools
 import json
 import math
@@ -42,7 +41,7 @@ def join(left, right, kind):
 
 
 # Keys that share a bucket: the hash of a number that stands alone is the number, its upper half folded into its lower one, times
-# FACTOR; `hash_number` in crates/ps_keys/src/rows.rs has it. Small hashes lie in the first bucket.
+# FACTOR; `hash_number` in crates/ps_keys/src/rows.rt has it. Small hashes lie in the first bucket.
 
 FACTOR = 0x9e3779b97f4a7c15
 
@@ -78,25 +77,14 @@ def pairs(count):
     return [list(first), [signed(folded(START ^ a, FACTOR ^ 16) ^ 1) for a in first]]
 
 
-LETTERS = b'abcdefghijklmnopqrstuvwxyz012345'
-
-
 def texts(count):
-    """Texts of 32 bytes with one hash: the third word of each is the state after the first two, where that is ASCII."""
-    low_words = [int.from_bytes(bytes(letters), 'little') for letters in itertools.product(LETTERS, repeat=3)]
+    """Texts of 32 bytes with one hash: the third word takes back what the first two did, so the product with the fourth is 0."""
     second = int.from_bytes(b'-second-', 'little') ^ FACTOR
-    start, not_ascii = START + 32 & WORD, 0x8080808080808080
-    found = []
-    for letters in itertools.product(LETTERS, repeat=5):
-        high = int.from_bytes(bytes(letters), 'little') << 24
-        masked = high ^ start
-        for low in low_words:
-            product = (low ^ masked) * second
-            if (product ^ product >> 64) & not_ascii == 0:
-                words = high | low, product & WORD ^ product >> 64
-                found.append('%s-second-%s-is-last' % tuple(word.to_bytes(8, 'little').decode() for word in words))
-                if len(found) == count:
-                    return found
+    for letters in itertools.product(b'abcdefghijklmnopqrstuvwxyz', repeat=8):
+        third = folded(int.from_bytes(bytes(letters), 'little') ^ (START + 32 & WORD), second).to_bytes(8, 'little')
+        if third.isalnum():
+            front = (bytes(letters) + b'-second-' + third).decode()
+            return ['%s%08d' % (front, i) for i in range(count)]
 
 
 def names(count):
@@ -106,33 +94,109 @@ def names(count):
                 [['scan', 0, None], ['select', 0, [['a', 0], ['b', 1]]]])
 
 
-# A case: how a document is made from its size, and that size.
+# Joins under a slice, and aggregates of many groups.
+
+def sliced_join(how, left, right, slice):
+    """A join of two columns of whole numbers, of which a slice is kept."""
+    keys = [] if how == 'cross' else [0]
+    return plan([[['key', 'int', left]], [['key', 'int', right], ['row', 'int', list(range(len(right)))]]], [['col', 'key']],
+                [['scan', 0, None], ['scan', 1, None], ['join', 0, 1, how, keys, keys, None, False, 'm:m', slice]])
+
+
+def cross_join(count, slice):
+    return sliced_join('cross', list(range(count)), list(range(count)), slice)
+
+
+def equal_keys(how, count, slice):
+    return sliced_join(how, [7] * count, [7] * count, slice)
+
+
+FUNCTIONS = ['min', 'max', 'first', 'last', 'n_unique', 'sum']
+
+
+def columns_of_groups(groups, columns):
+    return [['key', 'int', list(range(groups))]] + [['c%d' % i, 'int', [i] * groups] for i in range(columns)]
+
+
+def aggregates(groups, columns):
+    """A row for each group, and in it as many aggregates as there are columns, each of one of these."""
+    exprs, named = [['col', 'key']] + [['col', 'c%d' % i] for i in range(columns)], []
+    for i in range(columns):
+        named.append(['a%d' % i, len(exprs)])
+        exprs.append([FUNCTIONS[i % len(FUNCTIONS)], 1 + i])
+    return plan([columns_of_groups(groups, columns)], exprs, [['scan', 0, None], ['group_by', 0, [['key', 0]], named, True, [0, 5]]])
+
+
+def aggregates_of_sums(groups, columns):
+    """The same where each aggregate is that of the sum of two columns, which needs the tables of the groups."""
+    exprs, named = [['col', 'key']] + [['col', 'c%d' % i] for i in range(columns)], []
+    for i in range(columns):
+        named.append(['a%d' % i, len(exprs) + 1])
+        exprs += [['add', 1 + i, 1 + (i + 1) % columns], ['max', len(exprs)]]
+    return plan([columns_of_groups(groups, columns)], exprs, [['scan', 0, None], ['group_by', 0, [['key', 0]], named, True, [0, 5]]])
+
+
+# Shared expressions, and deep ones.
+
+def doublings(rows, times):
+    """A column added to itself so many times over, each time once."""
+    exprs = [['col', 'a']] + [['add', i, i] for i in range(times)]
+    return plan([[['a', 'int', [i % 7 for i in range(rows)]]]], exprs, [['scan', 0, None], ['select', 0, [['x', times]]], ['slice', 1, 0, 5]])
+
+
+def deep(operator, depth):
+    """An expression of so many operators, each made of the number of the one inside it."""
+    exprs = [['col', 'a'], ['bool', True], ['int', 0], ['int', 5]]
+    for i in range(depth):
+        exprs.append(operator(0 if i == 0 else len(exprs) - 1))
+    return plan([[['a', 'int', [3, 1, 2]]]], exprs, [['scan', 0, None], ['select', 0, [['x', len(exprs) - 1]]]])
+
+
+# A case: how a document is made from its size, that size, and the kilobytes of stack if there are to be few.
 CASES = {
     'group-by of numbers': (lambda n: group_by(numbers(n), 'int'), 60_000),
     'group-by of shards': (lambda n: group_by(shards(n), 'int'), 60_000),
     'distinct of pairs': (lambda n: distinct(pairs(n), 'int'), 40_000),
     'join of numbers': (lambda n: join(numbers(n), numbers(n)[::-1], 'int'), 32_500),
-    'group-by of texts': (lambda n: group_by(texts(n), 'str'), 20_000),
-    'join of texts': (lambda n: join(texts(n), texts(n)[::-1], 'str'), 10_000),
+    'group-by of texts': (lambda n: group_by(texts(n), 'str'), 40_000),
+    'join of texts': (lambda n: join(texts(n), texts(n)[::-1], 'str'), 20_000),
     'names of columns': (names, 40_000),
+    'cross join, first rows': (lambda n: cross_join(n, [0, 5]), 20_000),
+    'cross join, last rows': (lambda n: cross_join(n, [-5, 5]), 20_000),
+    'inner join, first rows': (lambda n: equal_keys('inner', n, [0, 5]), 60_000),
+    'inner join, last rows': (lambda n: equal_keys('inner', n, [-5, 5]), 60_000),
+    'full join, rows in the middle': (lambda n: equal_keys('full', n, [n * n // 2, 5]), 60_000),
+    'aggregates of columns': (lambda n: aggregates(1_000, n), 200),
+    'aggregates of sums': (lambda n: aggregates_of_sums(1_000, n), 200),
+    'fourteen doublings': (lambda n: doublings(n, 14), 20_000),
+    'deep sums': (lambda n: deep(lambda e: ['add', e, 0], n), 253, 256),
+    'deep choices': (lambda n: deep(lambda e: ['ternary', 1, e, 0], n), 253, 256),
+    'deep slices': (lambda n: deep(lambda e: ['slice', e, 2, 3], n), 253, 256),
+    'deep sorts': (lambda n: deep(lambda e: ['sort_by', e, [0], [False], [False]], n), 253, 256),
+    'deep reverses': (lambda n: deep(lambda e: ['reverse', e], n), 253, 256),
 }
 
 
-def seconds_of(program, document):
+def seconds_of(program, document, stack=None):
     """The document's size in bytes, and the least seconds and the peak memory of some runs."""
+    command = [program, 'run'] if stack is None else ['sh', '-c', 'ulimit -s %d && exec "$0" run' % stack, program]
     with tempfile.TemporaryFile() as file:
         file.write(json.dumps(document, separators=(',', ':')).encode())
         file.flush()
-        return file.tell(), *measure([program, 'run'], file)
+        return file.tell(), *measure(command, file)
 
 
 def main():
     program = sys.argv[1]
     print('%-32s %8s %9s %9s %8s %8s' % ('', 'size', 'document', 'seconds', 'growth', 'peak'))
     for name in sys.argv[2:] or CASES:
-        make, size = CASES[name]
-        _, half, _ = seconds_of(program, make(size // 2))
-        length, seconds, megabytes = seconds_of(program, make(size))
+        make, size, *stack = CASES[name]
+        try:
+            _, half, _ = seconds_of(program, make(size // 2), *stack)
+            length, seconds, megabytes = seconds_of(program, make(size), *stack)
+        except AssertionError as failure:
+            print('%-32s %8d %s' % (name, size, failure), flush=True)
+            continue
         growth = '%8.2f' % math.log2(seconds / half) if half > 0 and seconds > 0 else '%8s' % '-'
         print('%-32s %8d %6.2f MB %7.2f s %s %5.0f MB' % (name, size, length / 1e6, seconds, growth, megabytes), flush=True)
 
