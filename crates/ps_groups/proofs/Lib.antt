@@ -2,6 +2,7 @@ pub mod Lasts
 pub mod Kept
 pub mod Gives
 pub mod Parts
+pub mod Told
 pub mod Values
 pub mod KeyValues
 pub mod Reducing

@@ -1,6 +1,6 @@
 -- Expressions that are reductions.
 use Rattle.std.proofs.Common.{◌≡◌, ℕ, zero, suc, ◌<◌, ◌≤◌, List, [], ◌∷◌, ◌++◌, length, get_or, map, true, false, not, refl, sym, ap, subst, ◌∙◌, arith}
-use Rattle.std.specs.Prelude.{◌||◌, flat_map, slice_get, if◌then◌else◌, IfSome, IsTrue, Option, None, Some}
+use Rattle.std.specs.Prelude.{◌==◌, ◌||◌, flat_map, slice_get, if◌then◌else◌, IsTrue, Some}
 use Rattle.std.specs.Str.{bytes_eq}
 use Rattle.std.specs.List.{All, list_any}
 use Rattle.std.proofs.lemmas.Bool.{le-leb}
@@ -9,7 +9,7 @@ use Rattle.std.proofs.lemmas.List.Quantifiers.{position-Some}
 use Rattle.pu_base.specs.declared.arena.Node.{Node}
 use Rattle.ps_expr_eval.proofs.Taking.{aggregate-tree}
 use Rattle.ps_expr_eval.specs.Wholes.{aggregated_of, aggregation_of}
-use Rattle.ps_frame.specs.Aggregates.{aggregate_column, count_column, max_rows, sum_value}
+use Rattle.ps_frame.specs.Aggregates.{aggregate_column, count_column, distinct_values, max_rows, sum_value}
 use Rattle.ps_frame.specs.Causes.{Column, value, cell_causes, cell_values, column_causes, has_cause, is_empty, whole_column}
 use Rattle.ps_frame.specs.Eval.{eval, from_whole, operand}
 use Rattle.ps_frame.specs.Frames.{kinds_of}
@@ -28,10 +28,11 @@ use Rattle.ps_frame.specs.declared.value.DataType.TheVariants as kind
 use Rattle.ps_frame.specs.declared.value.Value.{Value}
 use Rattle.ps_frame.specs.declared.value.Value.TheVariants as val
 use Rattle.ps_meaning.specs.Groups.{only_value}
+use Rattle.ps_keys.specs.KeyRows.{places_of_each}
 use Rattle.ps_keys.specs.Numbering.{places_of}
 use Rattle.ps_keys.specs.declared.numbering.Numbering.{Numbering}
 use Rattle.ps_keys.proofs.FirstRows.{at-below, length-below}
-use Rattle.ps_keys.proofs.KeptRows.{kept-few}
+use Rattle.ps_keys.proofs.KeptRows.{kept-all, kept-few}
 use Rattle.ps_keys.proofs.Places.{places-few}
 use Rattle.ps_keys.proofs.RowValues.{map-map}
 use Rattle.ps_groups.specs.Grouped.{IsAggregate}
@@ -39,7 +40,11 @@ use Rattle.ps_groups.specs.Reductions.{Reduces, ReducesColumn, count_values, red
 use Rattle.ps_groups.specs.GroupTables.{IsNumberingOf, group_tables, table_at}
 use Rattle.ps_groups.specs.declared.reductions.Reduction.{Reduction}
 use Rattle.ps_groups.specs.declared.reductions.Reduction.TheVariants as reduction
+use Rattle.ps_groups.specs.Statistics.{told, values_in}
+use Rattle.ps_groups.specs.declared.statistics.Statistic.{Statistic}
+use Rattle.ps_groups.specs.declared.statistics.Statistic.TheVariants as statistic
 use Rattle.ps_groups.proofs.KeyTables.{tables-fit}
+use Rattle.ps_groups.proofs.Told.{distinct-few}
 use Rattle.ps_groups.proofs.Values.{values-fit}
 
 -- a column of values has no causes, and gives them back
@@ -111,16 +116,31 @@ rows-reduce i s name within there at f same few =
     ∙ ap (λ n. record (count_column at n) { lost = [] }) long
     ∙ ap (λ (c : Column). record c { lost = [] }) (count-is at (length f.rows) few)
 
--- an aggregate's entry is reduced as its column is
-entry-reduces : (f : Node → Tree) (a : IRAggExpr) (s : Fields) (i : ℕ) (r : Reduction) → i < length s
-    → ((name : List ℕ) × (f (aggregated_of a) ≡ Tree.column name) × (field_index name s ≡ Some i)) → ReducesColumn (aggregation_of a) i r → Reduces s (aggregate_tree f a) r
-entry-reduces f a s i r within (name, is, there) reduces =
-    subst (λ t. Reduces s t r) (sym (aggregate-tree f a ∙ ap (Tree.aggregate (aggregation_of a)) is)) (reduces s name within there)
+-- what is told of a column
+pub least-told : (i : ℕ) → ReducesColumn Aggregation.min i (reduction.Told statistic.Least i)
+least-told i s name within there at f same few = of-column at f Aggregation.min name i (ap (field_index name) same ∙ there)
 
-pub reduces-column : (f : Node → Tree) (a : IRAggExpr) (s : Fields) (i : ℕ) (n : Node) (o : Option Reduction) → n ≡ aggregated_of a → i < length s
-    → ((name : List ℕ) × (f n ≡ Tree.column name) × (field_index name s ≡ Some i)) → IfSome o (ReducesColumn (aggregation_of a) i) → IfSome o (Reduces s (aggregate_tree f a))
-reduces-column f a s i n None e within column h = tt
-reduces-column f a s i n (Some r) e within column h = entry-reduces f a s i r within (subst (λ m. (name : List ℕ) × (f m ≡ Tree.column name) × (field_index name s ≡ Some i)) e column) h
+pub greatest-told : (i : ℕ) → ReducesColumn Aggregation.max i (reduction.Told statistic.Greatest i)
+greatest-told i s name within there at f same few = of-column at f Aggregation.max name i (ap (field_index name) same ∙ there)
+
+pub first-told : (i : ℕ) → ReducesColumn Aggregation.first i (reduction.Told statistic.First i)
+first-told i s name within there at f same few = of-column at f Aggregation.first name i (ap (field_index name) same ∙ there)
+
+pub last-told : (i : ℕ) → ReducesColumn Aggregation.last i (reduction.Told statistic.Last i)
+last-told i s name within there at f same few = of-column at f Aggregation.last name i (ap (field_index name) same ∙ there)
+
+pub distinct-told : (i : ℕ) → ReducesColumn Aggregation.n_unique i (reduction.Told statistic.Distinct i)
+distinct-told i s name within there at f same few =
+    let vs = values_at i f.rows in
+    of-column at f Aggregation.n_unique name i (ap (field_index name) same ∙ there)
+    ∙ ap (λ (c : Column). record c { lost = [] })
+    (count-is at (length (distinct_values vs)) (omega (arith, distinct-few vs, length-map f.rows (λ (row : List Value). get_or row i val.Null), few)))
+
+-- an aggregate's entry is reduced as its column is
+pub reduces-column : (f : Node → Tree) (a : IRAggExpr) (s : Fields) (i : ℕ) (n : Node) (r : Reduction) → n ≡ aggregated_of a → i < length s
+    → ((name : List ℕ) × (f n ≡ Tree.column name) × (field_index name s ≡ Some i)) → ReducesColumn (aggregation_of a) i r → Reduces s (aggregate_tree f a) r
+reduces-column f a s i n r e within (name, is, there) reduces =
+    subst (λ t. Reduces s t r) (sym (aggregate-tree f a ∙ ap (Tree.aggregate (aggregation_of a)) (ap f (sym e) ∙ is))) (reduces s name within there)
 
 -- the values at a place of rows that are picked
 read-at : (i : ℕ) (rows : List (List Value)) (p : ℕ) → get_or (values_at i rows) p val.Null ≡ get_or (get_or rows p []) i val.Null
@@ -146,6 +166,27 @@ module _ (f : Frame) (count : ℕ) (keys : List ℕ) (i : ℕ) (r : Reduction) w
       (λ j. map (λ k. sum_value (sym kind j) (values_of_key (values j) keys k)) (below count))
       ∙ (λ j. map (λ k. sum_value (slice_get (kinds_of f.schema) i) (values-picked i f.rows (places_of k keys) j)) (below count))
       ∙ ap (reduced_values f count keys) (sym is)
+
+  pub told-reduced : (s : Statistic) (vs : List Value) (rows : List (List ℕ)) → vs ≡ values_at i f.rows → rows ≡ places_of_each count keys → r ≡ reduction.Told s i
+      → map (λ ps. told s (values_in vs ps)) rows ≡ reduced_values f count keys r
+  told-reduced s vs rows values together is =
+      ap (map (λ ps. told s (values_in vs ps))) together
+      ∙ map-map (λ ps. told s (values_in vs ps)) (λ k. places_of k keys) (below count)
+      ∙ (λ j. map (λ k. told s (values_in (values j) (places_of k keys))) (below count))
+      ∙ (λ j. map (λ k. told s (values-picked i f.rows (places_of k keys) j)) (below count))
+      ∙ ap (reduced_values f count keys) (sym is)
+
+-- the rows of each key are rows, and not too many
+module _ (count : ℕ) (keys : List ℕ) where
+  row-of-key : (k : ℕ) (d : List ℕ) → k < length (places_of_each count keys) → get_or (places_of_each count keys) k d ≡ places_of k keys
+  row-of-key k d within = at-below (λ k. places_of k keys) count k d (omega (arith, length-map (below count) (λ k. places_of k keys), length-below count))
+
+  pub rows-inside : (n : ℕ) → length keys ≡ n → All (λ ps. All (λ i. i < n) ps) (places_of_each count keys)
+  rows-inside n long k d within =
+      subst (All (λ i. i < n)) (sym (row-of-key k d within)) (subst (λ m. All (λ i. i < m) (places_of k keys)) long (kept-all (length keys) (λ i. get_or keys i 0 == k)))
+
+  pub rows-few : length keys ≤ max_rows → All (λ ps. length ps ≤ max_rows) (places_of_each count keys)
+  rows-few few k d within = subst (λ (ps : List ℕ). length ps ≤ max_rows) (sym (row-of-key k d within)) (omega (arith, places-few k keys, few))
 
 -- an expression that is a reduction, over the tables of groups
 module _ (at : ℕ) (f : Frame) (n : Numbering) (of : IsNumberingOf f n) where

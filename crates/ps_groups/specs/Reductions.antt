@@ -12,6 +12,7 @@ use Rattle.ps_frame.specs.Values.{is_null}
 use Rattle.ps_frame.specs.Zip.{below}
 use Rattle.ps_frame.specs.declared.value.Value.{Value}
 use Rattle.ps_frame.specs.declared.value.Value.TheVariants as val
+use Rattle.ps_groups.specs.Statistics.{told, values_in}
 use Rattle.ps_groups.specs.declared.reductions.Reduction.{Reduction}
 use Rattle.ps_groups.specs.declared.reductions.Reduction.TheVariants as reduction
 use Rattle.ps_keys.specs.Numbering.{places_of}
@@ -25,12 +26,14 @@ abbrev pub reduced_value : Fields → List (List Value) → Reduction → Value
 reduced_value s rows reduction.Len = val.IdxSize (length rows)
 reduced_value s rows (reduction.Count i) = val.IdxSize (count_values (values_at i rows))
 reduced_value s rows (reduction.Sum i) = sum_value (slice_get (kinds_of s) i) (values_at i rows)
+reduced_value s rows (reduction.Told statistic i) = told statistic (values_at i rows)
 
 -- the columns that a reduction reads stand in a schema of so many fields
 abbrev pub ReadsWithin : ℕ → Reduction → Type 0
 ReadsWithin n reduction.Len = ⊤
 ReadsWithin n (reduction.Count i) = i < n
 ReadsWithin n (reduction.Sum i) = i < n
+ReadsWithin n (reduction.Told statistic i) = i < n
 
 -- over each table of a schema an expression is one cell, the value of the reduction
 abbrev pub Reduces : Fields → Tree → Reduction → Type 0
@@ -46,7 +49,7 @@ reduced_values f count keys r = map (λ k. reduced_value f.schema (rows_at (plac
 
 -- a column's values in the rows of a key number
 abbrev pub values_of_key : List Value → List ℕ → ℕ → List Value
-values_of_key values keys k = map (λ i. get_or values i val.Null) (places_of k keys)
+values_of_key values keys k = values_in values (places_of k keys)
 
 -- for each key number below a count an item of which P holds with the key's values
 pub record AreOfKeys {A : Type 0} (none : A) (P : List Value → A → Type 0) (count : ℕ) (values : List Value) (keys : List ℕ) (items : List A) : Type 0 where

@@ -13,6 +13,7 @@ ghost use Rattle.ps_groups.specs.Errors.{IsErrorAt};
 ghost use Rattle.ps_groups.specs.Grouped.{GivesFirst, IsAggregate, IsFaultOfAny, IsFaultOver, IsValueOf, last_fields};
 ghost use Rattle.ps_groups.specs.Reductions.{ReadsWithin, reduced_values};
 ghost use Rattle.ps_groups.specs.GroupTables.{IsNumberingOf, group_tables};
+ghost use Rattle.ps_keys.specs.KeyRows.{places_of_each};
 ghost use Rattle.ps_meaning.specs.Steps.{key_trees};
 
 use crate::reductions::{Reduction, reduced, reduction_of};
@@ -25,6 +26,7 @@ use ps_frame::frame::DataFrame;
 use ps_frame::refusal::{PolarsError, PolarsResult};
 use ps_frame::schema::Schema;
 use ps_frame::value::{DataFault, DataType, Value};
+use ps_keys::key_rows::RowsByKey;
 use ps_keys::numbering::Numbering;
 use ps_meaning::faults::fault_at;
 use ps_meaning::options::ExprIR;
@@ -57,6 +59,7 @@ pub(crate) fn aggregate_columns(
     // A law: each row has a value for each field, and so have the tables of the groups.
     table_fits(df);
     let from = schema.len() - aggs.len();
+    let mut rows_of_keys = None;
     let mut tables = None;
     let mut columns = Vec::with_capacity(alloc, aggs.len())?;
     for (i, agg) in aggs.iter().enumerate() {
@@ -69,6 +72,7 @@ pub(crate) fn aggregate_columns(
             arena,
             df,
             numbering,
+            &mut rows_of_keys,
             &mut tables,
             dtype,
         ) {
@@ -79,7 +83,7 @@ pub(crate) fn aggregate_columns(
     Ok(columns)
 }
 
-// The column of an aggregate over groups, whose tables are made once one is needed.
+// The column of an aggregate over groups. Their rows are put together, and their tables made, once one is needed.
 fn aggregate_column(
     alloc: Global,
     at: Node,
@@ -87,6 +91,7 @@ fn aggregate_column(
     arena: &Arena<AExpr>,
     df: &DataFrame,
     numbering: &Numbering,
+    rows_of_keys: &mut Option<RowsByKey>,
     tables: &mut Option<GroupTables>,
     dtype: DataType,
 ) -> PolarsResult<Column>
@@ -94,16 +99,18 @@ fn aggregate_column(
     requires kind { kind_over df.now.schema (tree_at arena.now.items expr) ≡ Some dtype }
     requires fit { FitsFrame df.now }
     requires groups { IsNumberingOf df.now numbering.now }
+    requires together { IfSome rows_of_keys.old (λ rows. rows ≡ places_of_each (length numbering.now.firsts.items) numbering.now.keys.items) }
     requires made { IfSome tables.old (λ made. made ≡ group_tables df.now numbering.now) }
     ensures kind { IfOk result (λ c. c.kind ≡ dtype) }
     ensures column { IfOk result (IsAggregate at.0 (group_tables df.now numbering.now) (tree_at arena.now.items expr)) }
     ensures error { IfErr result (IsErrorAt at.0 (IsFaultOver at.0 (group_tables df.now numbering.now) (tree_at arena.now.items expr))) }
+    ensures together { OnOk result (IfSome rows_of_keys.new (λ rows. rows ≡ places_of_each (length numbering.now.firsts.items) numbering.now.keys.items)) }
     ensures made { OnOk result (IfSome tables.new (λ made. made ≡ group_tables df.now numbering.now)) }
 {
     // Read for its clause alone: there are few enough rows that a count of them is a value.
     let _height = df.height();
     match reduction_of(expr, arena, df.schema()) {
-        Some(reduction) => reduced_column(alloc, reduction, df, numbering, dtype),
+        Some(reduction) => reduced_column(alloc, reduction, df, numbering, rows_of_keys, dtype),
         None => {
             let tables = tables.get_or_try_insert_with(|| tables_by_key(alloc, df, numbering))?;
             evaluated_column(alloc, at, expr, arena, tables, dtype)
@@ -117,16 +124,20 @@ fn reduced_column(
     reduction: Reduction,
     df: &DataFrame,
     numbering: &Numbering,
+    rows_of_keys: &mut Option<RowsByKey>,
     dtype: DataType,
 ) -> PolarsResult<Column>
     requires within { ReadsWithin (length df.now.schema) reduction }
     requires groups { IsNumberingOf df.now numbering.now }
+    requires together { IfSome rows_of_keys.old (λ rows. rows ≡ places_of_each (length numbering.now.firsts.items) numbering.now.keys.items) }
     requires fit { IsTrue (all_fit dtype (reduced_values df.now (length numbering.now.firsts.items) numbering.now.keys.items reduction)) }
     ensures made { IfOk result (λ c. c ≡ record { kind = dtype; values = reduced_values df.now (length numbering.now.firsts.items) numbering.now.keys.items reduction }) }
+    ensures together { OnOk result (IfSome rows_of_keys.new (λ rows. rows ≡ places_of_each (length numbering.now.firsts.items) numbering.now.keys.items)) }
     ensures memory { OnErr result (result ≡ Err PolarsError.OutOfMemory) }
 {
     let keys = numbering.keys.as_slice();
-    let values = reduced(alloc, reduction, df, keys, numbering.firsts.len())?;
+    let count = numbering.firsts.len();
+    let values = reduced(alloc, reduction, df, keys, count, rows_of_keys)?;
     column_of_values(alloc, dtype, values)
 }
 

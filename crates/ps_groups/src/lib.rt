@@ -7,4 +7,5 @@ pub mod distinct;
 pub mod group_by;
 mod kept_rows;
 mod reductions;
+mod statistics;
 mod tables;

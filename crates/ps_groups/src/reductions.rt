@@ -1,21 +1,23 @@
 // Aggregates that need no table of a group.
-ghost use Rattle.std.specs.Prelude.{◌≡◌, ◌<◌, ℕ, List, IfOk, IfSome, Some, length};
+ghost use Rattle.std.specs.Prelude.{◌≡◌, ◌<◌, ℕ, List, IfOk, IfSome, OnOk, Some, length};
 ghost use Rattle.ps_expr_eval.specs.Wholes.{aggregation_of};
 ghost use Rattle.ps_frame.specs.Tables.{field_index};
 ghost use Rattle.ps_frame.specs.Trees.{Aggregation as AnAggregation, IsComplete, IsExpression, Tree as ATree, aggregate_tree, tree_at};
 ghost use Rattle.ps_groups.specs.Reductions.{ReadsWithin, Reduces, ReducesColumn, reduced_values};
-ghost use Rattle.ps_keys.specs.KeyRows.{AreBelow};
+ghost use Rattle.ps_keys.specs.KeyRows.{AreBelow, places_of_each};
 
 use crate::by_key::{row_counts, sums, value_counts};
+use crate::statistics::{Statistic, statistics};
 use ps_expr_eval::aggregate::aggregated;
 use ps_frame::expr::{AExpr, IRAggExpr, entry};
 use ps_frame::frame::DataFrame;
 use ps_frame::schema::Schema;
 use ps_frame::value::Value;
+use ps_keys::key_rows::{RowsByKey, rows_by_key};
 use pu_base::{Arena, Node};
 use std::alloc::{AllocError, Global};
 
-/// An aggregate that needs no table of a group: each row is added to what its key has so far.
+/// An aggregate that needs no table of a group.
 #[derive(Clone, Copy)]
 pub(crate) enum Reduction {
     /// How many rows there are.
@@ -24,6 +26,8 @@ pub(crate) enum Reduction {
     Count(usize),
     /// The sum of the column at this place.
     Sum(usize),
+    /// What is told of the column at this place.
+    Told(Statistic, usize),
 }
 
 /// The reduction that gives what an expression gives over tables of a schema, where one is known.
@@ -50,7 +54,7 @@ fn column_reduction(
     ensures within { IfSome result (ReadsWithin (length schema.now)) }
 {
     match column_place(aggregated(aggregate), arena, schema) {
-        Some(place) => reduction_at(aggregate, place),
+        Some(place) => Some(reduction_at(aggregate, place)),
         None => None,
     }
 }
@@ -68,14 +72,18 @@ fn column_place(expr: Node, arena: &Arena<AExpr>, schema: &Schema) -> Option<usi
 }
 
 // The reduction that an aggregate of the column at a place is.
-fn reduction_at(aggregate: IRAggExpr, place: usize) -> Option<Reduction>
-    ensures reduces { IfSome result (ReducesColumn (aggregation_of aggregate) place) }
-    ensures within { IfSome result (λ r. (n : ℕ) → place < n → ReadsWithin n r) }
+fn reduction_at(aggregate: IRAggExpr, place: usize) -> Reduction
+    ensures reduces { ReducesColumn (aggregation_of aggregate) place result }
+    ensures within { (n : ℕ) → place < n → ReadsWithin n result }
 {
     match aggregate {
-        IRAggExpr::Sum(_) => Some(Reduction::Sum(place)),
-        IRAggExpr::Count(_, all) => Some(count_at(place, all)),
-        _ => None,
+        IRAggExpr::Min(_) => Reduction::Told(Statistic::Least, place),
+        IRAggExpr::Max(_) => Reduction::Told(Statistic::Greatest, place),
+        IRAggExpr::First(_) => Reduction::Told(Statistic::First, place),
+        IRAggExpr::Last(_) => Reduction::Told(Statistic::Last, place),
+        IRAggExpr::Sum(_) => Reduction::Sum(place),
+        IRAggExpr::NUnique(_) => Reduction::Told(Statistic::Distinct, place),
+        IRAggExpr::Count(_, all) => count_at(place, all),
     }
 }
 
@@ -92,7 +100,7 @@ fn count_at(place: usize, all: bool) -> Reduction
 }
 
 /// The values of a reduction over the rows of each key, where each row's key is given by its number below the
-/// count.
+/// count. The rows of each key are put together once a reduction needs them so.
 ///
 /// Fails only for want of memory.
 pub(crate) fn reduced(
@@ -101,11 +109,14 @@ pub(crate) fn reduced(
     df: &DataFrame,
     keys: &[usize],
     count: usize,
+    rows_of_keys: &mut Option<RowsByKey>,
 ) -> Result<Vec<Value>, AllocError>
     requires within { ReadsWithin (length df.now.schema) reduction }
     requires below { AreBelow count keys.now }
     requires long { length keys.now ≡ length df.now.rows }
-    ensures { IfOk result (λ values. values.items ≡ reduced_values df.now count keys.now reduction) }
+    requires together { IfSome rows_of_keys.old (λ rows. rows ≡ places_of_each count keys.now) }
+    ensures values { IfOk result (λ values. values.items ≡ reduced_values df.now count keys.now reduction) }
+    ensures together { OnOk result (IfSome rows_of_keys.new (λ rows. rows ≡ places_of_each count keys.now)) }
 {
     // Read for its clause alone: there are few enough rows that a count of them takes 4 bytes.
     let _height = df.height();
@@ -113,5 +124,9 @@ pub(crate) fn reduced(
         Reduction::Len => row_counts(alloc, keys, count),
         Reduction::Count(place) => value_counts(alloc, df.column(place), keys, count),
         Reduction::Sum(place) => sums(alloc, df.column(place), keys, count),
+        Reduction::Told(statistic, place) => {
+            let rows = rows_of_keys.get_or_try_insert_with(|| rows_by_key(alloc, keys, count))?;
+            statistics(alloc, statistic, df.column(place), rows)
+        }
     }
 }
