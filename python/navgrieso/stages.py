@@ -1,0 +1,45 @@
+"""The stages of a query's text, and which of them made a node of its plan."""
+from __future__ import annotations
+
+import re
+
+JOIN = re.compile(r'join\s+\w+\s*(?:"((?:[^"]|"")*)"|(\w+))')
+# A name in quotes, a text in quotes, or what holds no quote and no bar.
+PIECE = re.compile(r'"[^"]*"?|\'[^\']*\'?|[^"\'|]+')
+
+
+def stages_of(query: str) -> list[str]:
+    """The parts of a query between its bars, the one with `from` first."""
+    stages, at = [""], 0
+    while at < len(query):
+        found = PIECE.match(query, at)
+        if found is None:
+            stages.append("")
+            at += 1
+        else:
+            stages[-1] += found[0]
+            at = found.end()
+    return [stage.strip() for stage in stages]
+
+
+def stage_of(query: str, node: int) -> int | None:
+    """The place of the stage that made a node of the query's plan, among the parts between bars: a
+    scan, one node for each stage, and a scan more before a join.
+
+    None for the sink and for what is past it.
+    """
+    first = 0
+    for place, stage in enumerate(stages_of(query)):
+        first += 2 if stage.split(maxsplit=1)[:1] == ["join"] else 1
+        if node < first:
+            return place
+    return None
+
+
+def joined_table(stage: str) -> str | None:
+    """The table that a stage joins, if it is a join."""
+    found = JOIN.match(stage)
+    if found is None:
+        return None
+    quoted, word = found.groups()
+    return word if quoted is None else quoted.replace('""', '"')
