@@ -3,7 +3,6 @@ pub mod AtPlaces
 pub mod Evaluating
 pub mod KeptRows
 pub mod LaneRows
-pub mod LastFirst
 pub mod Operated
 pub mod Operators
 pub mod Parts

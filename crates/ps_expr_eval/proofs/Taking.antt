@@ -2,11 +2,10 @@
 use Rattle.std.proofs.Common.{◌≡◌, ℕ, zero, suc, ◌+◌, ◌<◌, ◌≤◌, List, [], ◌∷◌, ◌++◌, length, get_or, take, Bool, true, false, refl, subst, sym, ◌∙◌, ap, arith}
 use Rattle.std.specs.Prelude.{⊤, not, ◌&&◌, ◌||◌, ◌==◌, is_some, IsSome, IsTrue, Option, Some, None}
 use Rattle.std.proofs.lemmas.List.{take_more}
-use Rattle.ps_expr_eval.specs.Evaluations.{AreTyped, EvaluateAll, Evaluates, IsTyped, operands_of}
+use Rattle.ps_expr_eval.specs.Evaluations.{AreTyped, operands_of}
 use Rattle.ps_expr_eval.specs.Wholes.{aggregated_of, aggregation_of}
-use Rattle.ps_expr_eval.specs.declared.computed.ComputedColumn.{ComputedColumn}
 use Rattle.ps_frame.proofs.Lists.{both}
-use Rattle.ps_frame.specs.Tables.{Fields, Frame, field_kind}
+use Rattle.ps_frame.specs.Tables.{Fields, field_kind}
 use Rattle.ps_frame.specs.Trees.{Aggregation, AreComplete, IsComplete, Tree, aggregate_tree, entry_tree, tree_size, trees_of, trees_size}
 use Rattle.ps_frame.specs.Typing.{aggregate_kind, binary_kind, branch_kind, cast_kind, fits_keys, function_kind, have_kinds, is_kind, is_scalar, kind_if, kind_over, sum_kind, tree_count}
 use Rattle.ps_frame.specs.declared.expr.AExpr.{AExpr}

@@ -1,10 +1,9 @@
 -- Each step of the walk over an expression keeps what the walk is to leave.
 use Rattle.std.proofs.Common.{◌≡◌, ℕ, suc, ◌+◌, ◌*◌, ◌<◌, ◌≤◌, List, [], ◌∷◌, ◌++◌, length, refl, subst, sym, ◌∙◌, ap, append_assoc, arith}
-use Rattle.std.specs.Prelude.{map, reverse, slice_get, OnOk, Option, Some, Result, Ok, Err}
-use Rattle.std.proofs.lemmas.List.{length-append, append-nil, nil_from_length}
-use Rattle.ps_expr_eval.proofs.LastFirst.{reverse-last}
+use Rattle.std.specs.Prelude.{map, reverse, slice_get, OnOk, Some, Result, Ok, Err}
+use Rattle.std.proofs.lemmas.List.{length-append, append-nil, reverse-append}
 use Rattle.ps_expr_eval.specs.Evaluations.{AreTyped, EvaluateAll, Evaluates, IsTyped, operands_in, operands_of}
-use Rattle.ps_expr_eval.specs.Held.{IsOneOf, Keeps, cells_of}
+use Rattle.ps_expr_eval.specs.Held.{IsOneOf, cells_of}
 use Rattle.ps_expr_eval.specs.Walks.{AreTypedWork, Leaves, Proceeds, Remembers, operands_at, steps_left}
 use Rattle.ps_expr_eval.specs.declared.computed.ComputedColumn.{ComputedColumn}
 use Rattle.ps_expr_eval.specs.declared.evaluate.Work.{Work}
@@ -12,7 +11,7 @@ use Rattle.ps_expr_eval.specs.declared.evaluate.Work.TheVariants.{Visit, Compute
 use Rattle.ps_expr_eval.specs.declared.shared.SharedColumns.{SharedColumns}
 use Rattle.ps_frame.specs.Eval.{eval}
 use Rattle.ps_frame.specs.Tables.{Fields, Frame, whole}
-use Rattle.ps_frame.specs.Trees.{Tree, tree_at, tree_size, trees_of, trees_size}
+use Rattle.ps_frame.specs.Trees.{Tree, tree_at, trees_of, trees_size}
 use Rattle.ps_frame.specs.declared.expr.AExpr.{AExpr}
 use Rattle.pu_base.specs.declared.arena.Node.{Node}
 
@@ -55,9 +54,6 @@ enough t f ns os ps h = let n = as-many t f (ns ++ os) ps h in omega (arith, n, 
 -- the same columns of the same entries
 pub these-evaluate : (t : Frame) (f : Node → Tree) (ns ms : List Node) (ps qs : List ComputedColumn) → ns ≡ ms → ps ≡ qs → EvaluateAll t (trees_of f ns) ps → EvaluateAll t (trees_of f ms) qs
 these-evaluate t f ns ms ps qs e g h = subst (λ (ns : List Node). EvaluateAll t (trees_of f ns) qs) e (subst (EvaluateAll t (trees_of f ns)) g h)
-
-pub these-many : (t : Frame) (f : Node → Tree) (ns ms : List Node) (ps : List ComputedColumn) → ns ≡ ms → EvaluateAll t (trees_of f ns) ps → length ps ≡ length ms
-these-many t f ns ms ps e h = as-many t f ns ps h ∙ ap length e
 
 pub operands-are : (arena : List AExpr) (n : Node) (e x : AExpr) → slice_get arena n.0 ≡ Some e → e ≡ x → operands_at arena n ≡ operands_of x
 operands-are arena n e x h is = ap operands_in h ∙ ap operands_of is
@@ -115,19 +111,13 @@ computed t a one n left ps qs rs p m o is len e known h =
 pub waiting-below : (t : Frame) (a : List AExpr) (one n : Node) (left : List Work) (ps : List ComputedColumn) (m : SharedColumns) → Proceeds t a one (Compute n ∷ left) ps m → (below : List Node) × EvaluateAll t (trees_of (tree_at a) (below ++ operands_at a n)) ps
 waiting-below t a one n left ps m h = (h.leaves.0, subst (λ (ns : List Node). EvaluateAll t (trees_of (tree_at a) ns) ps) h.leaves.1 h.evaluated)
 
-pub ended-one : (t : Frame) (a : List AExpr) (one : Node) (ps : List ComputedColumn) (m : SharedColumns) → Proceeds t a one [] ps m → length ps ≡ 1
-ended-one t a one ps m h = these-many t (tree_at a) h.waiting (one ∷ []) ps h.leaves h.evaluated
-
-pub ended : (t : Frame) (a : List AExpr) (one : Node) (ps : List ComputedColumn) (p : ComputedColumn) (m : SharedColumns) → ps ≡ p ∷ [] → Proceeds t a one [] ps m → Evaluates t (tree_at a one) p
-ended t a one ps p m is h = (these-evaluate t (tree_at a) h.waiting (one ∷ []) ps (p ∷ []) h.leaves is h.evaluated).0
-
 pub first : (t : Frame) (a : List AExpr) (e : Node) (left : List Work) (ps : List ComputedColumn) (m : SharedColumns) → left ≡ Visit e ∷ [] → ps ≡ [] → IsTyped t.schema (tree_at a e) → Remembers t a m → Proceeds t a e (reverse left) ps m
 first t a e left ps m is none typed known =
     subst (λ (ws : List Work). Proceeds t a e (reverse ws) ps m) (sym is) (subst (λ (qs : List ComputedColumn). Proceeds t a e (Visit e ∷ []) qs m) (sym none) (starts t a e m typed known))
 
 -- what comes next is taken off the end
 pub next-first : (left fewer : List Work) (w : Work) → left ≡ fewer ++ w ∷ [] → reverse left ≡ w ∷ reverse fewer
-next-first left fewer w is = ap reverse is ∙ reverse-last fewer w
+next-first left fewer w is = ap reverse is ∙ reverse-append fewer (w ∷ [])
 
 -- what is put down for an entry
 pub put-down : (os ns : List Node) (n : Node) (before left after : List Work) → reverse after ≡ map Visit ns ++ reverse left → ns ≡ os → left ≡ before ++ Compute n ∷ [] → reverse after ≡ map Visit os ++ Compute n ∷ reverse before
@@ -149,6 +139,3 @@ less-one f w n left is = subst (λ (v : Work). steps_left f left < steps_left f 
 pub whatever : {A E : Type 0} (r : Result A E) (P : Type 0) → P → OnOk r P
 whatever (Ok x) P p = p
 whatever (Err e) P p = tt
-
-pub drained : (left : List Work) → length left ≡ 0 → reverse left ≡ []
-drained left none = ap reverse (nil_from_length left none)

@@ -4,7 +4,7 @@ use Rattle.ps_expr_eval.specs.Walks.{Proceeds, steps_left}
 use Rattle.ps_expr_eval.specs.declared.evaluate.Work.{Work}
 use Rattle.ps_expr_eval.specs.declared.evaluate.Work.TheVariants.{Visit}
 use Rattle.ps_frame.specs.Trees.{tree_at}
-use Rattle.ps_expr_eval.proofs.Walking.{drained, ended, ended-one, first, next-first}
+use Rattle.ps_expr_eval.proofs.Walking.{first, next-first}
 use Rattle.ps_expr_eval.proofs.evaluate.part_of.Goals as goal
 
 pub loop-next-init : goal.loop-next-init

@@ -1,11 +1,10 @@
-use Rattle.std.proofs.Common.{List, ◌∷◌, ◌++◌, ap, ◌∙◌, subst, sym}
-use Rattle.std.specs.Prelude.{map, reverse, IfSome, Option}
+use Rattle.std.proofs.Common.{List, ap, ◌∙◌, subst, sym}
+use Rattle.std.specs.Prelude.{reverse, IfSome, Option}
 use Rattle.pu_base.specs.declared.arena.Node.{Node}
 use Rattle.ps_expr_eval.specs.Evaluations.{AreTyped, Evaluates, operands_in, operands_of}
 use Rattle.ps_expr_eval.specs.Walks.{Proceeds, operands_at}
 use Rattle.ps_expr_eval.specs.declared.computed.ComputedColumn.{ComputedColumn}
 use Rattle.ps_expr_eval.specs.declared.evaluate.Work.{Work}
-use Rattle.ps_expr_eval.specs.declared.evaluate.Work.TheVariants.{Visit, Compute}
 use Rattle.ps_frame.specs.Trees.{tree_at, tree_size}
 use Rattle.ps_expr_eval.proofs.Walking.{fewer-steps, found, put-down, visited}
 use Rattle.ps_expr_eval.proofs.evaluate.visit.Goals as goal

@@ -1,9 +1,9 @@
-use Rattle.std.proofs.Common.{List, [], ◌∷◌, ◌++◌, ◌∙◌, ap, get_or, subst, sym}
+use Rattle.std.proofs.Common.{List, ◌∙◌, ap, subst, sym}
 use Rattle.pu_base.specs.declared.arena.Node.{Node}
 use Rattle.ps_expr_eval.proofs.Taking.{complete-at, noted, noted-all, operands-complete, passed}
 use Rattle.ps_frame.specs.Trees.{AreComplete, tree_at, trees_of}
 use Rattle.ps_expr_eval.proofs.shared.note_operands.Goals as goal
-use Rattle.ps_expr_eval.proofs.shared.note_operands.Goals.{then-takes-gt0+in_ok-is_first_reader+then-branch+in_ok-push, else-takes-gt0, else-takes-gt0-via-then-takes-gt0+in_ok-is_first_reader+else-branch, else-takes-gt0-via-else-takes-gt0}
+use Rattle.ps_expr_eval.proofs.shared.note_operands.Goals.{then-takes-gt0+in_ok-is_first_reader+then-branch+in_ok-push, else-takes-gt0}
 
 pub entry-requires-in-loop-operand : goal.entry-requires-in-loop-operand
 entry-requires-in-loop-operand c =
