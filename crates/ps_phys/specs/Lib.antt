@@ -1,0 +1,5 @@
+pub mod Walks
+pub mod Shown
+pub mod Printed
+pub mod Underway
+pub mod Examples
