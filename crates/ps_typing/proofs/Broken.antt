@@ -124,6 +124,10 @@ pub passed-on : {T : Type 0} (at : Node) (s : Fields) (us : List Tree) (t whole 
 passed-on at s us t whole e (Ok x) h same a k = absurd h
 passed-on at s us t whole e (Err y) h same a k = subst (λ (z : PolarsError). IsErrorAmong at s (tree_parts whole) z) (sym h) (carried-to at s us t whole e same a k)
 
+pub passed-among : {T : Type 0} (at : Node) (s : Fields) (us ts : List Tree) (e : PolarsError) (r : Result T PolarsError) → IsErrAnd r (λ y. y ≡ e) → AreAmong us ts → IsErrorAmong at s us e → IfErr r (λ y. IsErrorAmong at s ts y)
+passed-among at s us ts e (Ok x) h a k = absurd h
+passed-among at s us ts e (Err y) h a k = subst (λ (z : PolarsError). IsErrorAmong at s ts z) (sym h) (carried at s us ts e a k)
+
 -- a result that is passed on whole
 pub passed-whole : {T : Type 0} (at : Node) (s : Fields) (us : List Tree) (t whole : Tree) (r : Result T PolarsError) → whole ≡ t → AreAmong us (tree_parts t) → IfErr r (λ y. IsErrorAmong at s us y) → IfErr r (λ y. IsErrorAmong at s (tree_parts whole) y)
 passed-whole at s us t whole (Ok x) same a k = k

@@ -32,7 +32,7 @@ pub among-then : (us vs ts : List Tree) → AreAmong us vs → AreAmong vs ts �
 among-then us vs ts a b = record { tests = λ f h. b.tests f (a.tests f h); parts = λ x h. b.parts x (a.parts x h) }
 
 -- the first, the second and the third of what stands below an expression
-below-one : (t : Tree) (us : List Tree) → AreAmong us (t ∷ us)
+pub below-one : (t : Tree) (us : List Tree) → AreAmong us (t ∷ us)
 below-one t us = among-right (t ∷ []) us
 
 below-first : (t : Tree) (us vs : List Tree) → AreAmong us (t ∷ (us ++ vs))

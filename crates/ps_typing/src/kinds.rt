@@ -1,10 +1,11 @@
 // The kind of an expression over a schema.
-ghost use Rattle.std.specs.Prelude.{◌≡◌, ◌≢◌, ◌<◌, ◌≤◌, ◌+◌, ◌&&◌, IfErr, IfOk, IsTrue, None, Some};
+ghost use Rattle.std.specs.Prelude.{◌≡◌, ◌≢◌, ◌<◌, ◌≤◌, ◌+◌, ◌++◌, ◌&&◌, IfErr, IfOk, IsTrue, None, Some};
+ghost use Rattle.ps_frame.specs.Parts.{tree_parts};
 ghost use Rattle.ps_frame.specs.Trees.{AreComplete, IsExpression, tree_at, tree_size, trees_of, trees_size};
 ghost use Rattle.ps_frame.specs.Typing.{are_scalar, have_kinds, is_scalar, kind_over};
 ghost use Rattle.ps_frame.specs.Values.{same_kind};
 ghost use Rattle.ps_frame.specs.declared.value.DataType.TheVariants as kind;
-ghost use Rattle.ps_typing.specs.Refused.{IsTypingError, IsTypingErrorOfAny};
+ghost use Rattle.ps_typing.specs.Refused.{IsErrorAmong, IsTypingError, IsTypingErrorOfAny};
 
 use crate::rules::{
     aggregate_kind, aggregated, binary_kind, cast_kind, column_kind, function_kind, have_keys,
@@ -102,8 +103,7 @@ pub fn type_expr<L: Ledger>(
             is_scalar: true,
         }),
         AExpr::BinaryExpr { left, op, right } => {
-            let left = type_expr(alloc, at, *left, arena, schema, steps)?;
-            let right = type_expr(alloc, at, *right, arena, schema, steps)?;
+            let (left, right) = type_two(alloc, at, *left, *right, arena, schema, steps)?;
             let Some(dtype) = binary_kind(*op, left.dtype, right.dtype) else {
                 return Err(PolarsError::SchemaMismatch { node: at });
             };
@@ -144,8 +144,7 @@ pub fn type_expr<L: Ledger>(
             idx,
             returns_scalar,
         } => {
-            let gathered = type_expr(alloc, at, *expr, arena, schema, steps)?;
-            let idx = type_expr(alloc, at, *idx, arena, schema, steps)?;
+            let (gathered, idx) = type_two(alloc, at, *expr, *idx, arena, schema, steps)?;
             if !is_number(idx.dtype) || (*returns_scalar && !idx.is_scalar) {
                 return Err(PolarsError::SchemaMismatch { node: at });
             }
@@ -155,8 +154,7 @@ pub fn type_expr<L: Ledger>(
             })
         }
         AExpr::Filter { input, by } => {
-            let input = type_expr(alloc, at, *input, arena, schema, steps)?;
-            let by = type_expr(alloc, at, *by, arena, schema, steps)?;
+            let (input, by) = type_two(alloc, at, *input, *by, arena, schema, steps)?;
             if by.dtype != DataType::Boolean {
                 return Err(PolarsError::SchemaMismatch { node: at });
             }
@@ -180,9 +178,9 @@ pub fn type_expr<L: Ledger>(
             truthy,
             falsy,
         } => {
-            let predicate = type_expr(alloc, at, *predicate, arena, schema, steps)?;
-            let truthy = type_expr(alloc, at, *truthy, arena, schema, steps)?;
-            let falsy = type_expr(alloc, at, *falsy, arena, schema, steps)?;
+            let (predicate, truthy, falsy) = type_three(
+                alloc, at, *predicate, *truthy, *falsy, arena, schema, steps,
+            )?;
             if predicate.dtype != DataType::Boolean || truthy.dtype != falsy.dtype {
                 return Err(PolarsError::SchemaMismatch { node: at });
             }
@@ -206,9 +204,9 @@ pub fn type_expr<L: Ledger>(
             offset,
             length,
         } => {
-            let input = type_expr(alloc, at, *input, arena, schema, steps)?;
-            let offset = type_expr(alloc, at, *offset, arena, schema, steps)?;
-            let length = type_expr(alloc, at, *length, arena, schema, steps)?;
+            let (input, offset, length) = type_three(
+                alloc, at, *input, *offset, *length, arena, schema, steps,
+            )?;
             if !is_bound(offset) || !is_bound(length) {
                 return Err(PolarsError::SchemaMismatch { node: at });
             }
@@ -226,6 +224,64 @@ pub fn type_expr<L: Ledger>(
             what: *what,
         }),
     }
+}
+
+// Types two expressions. Like `type_three` it isn't inlined: each result that a function takes has room of its own
+// in the frame, and `type_expr` may be 256 deep.
+#[cycle(typing)]
+#[inline(never)]
+fn type_two<L: Ledger>(
+    alloc: Global,
+    at: Node,
+    first: Node,
+    second: Node,
+    arena: &Arena<AExpr>,
+    schema: &Schema,
+    steps: &mut Steps<L>,
+) -> PolarsResult<(TypedExpr, TypedExpr)>
+    requires first { IsExpression arena.now.items first }
+    requires second { IsExpression arena.now.items second }
+    ensures first_kind { IfOk result (λ p. kind_over schema.now (tree_at arena.now.items first) ≡ Some p.0.dtype) }
+    ensures first_scalar { IfOk result (λ p. p.0.is_scalar ≡ is_scalar (tree_at arena.now.items first)) }
+    ensures second_kind { IfOk result (λ p. kind_over schema.now (tree_at arena.now.items second) ≡ Some p.1.dtype) }
+    ensures second_scalar { IfOk result (λ p. p.1.is_scalar ≡ is_scalar (tree_at arena.now.items second)) }
+    ensures refused { IfErr result (IsErrorAmong at schema.now (tree_parts (tree_at arena.now.items first) ++ tree_parts (tree_at arena.now.items second))) }
+    ensures steps { steps.new ≤ steps.old + (tree_size (tree_at arena.now.items first) + tree_size (tree_at arena.now.items second)) }
+{
+    let first = type_expr(alloc, at, first, arena, schema, steps)?;
+    let second = type_expr(alloc, at, second, arena, schema, steps)?;
+    Ok((first, second))
+}
+
+// Types three expressions.
+#[cycle(typing)]
+#[inline(never)]
+fn type_three<L: Ledger>(
+    alloc: Global,
+    at: Node,
+    first: Node,
+    second: Node,
+    third: Node,
+    arena: &Arena<AExpr>,
+    schema: &Schema,
+    steps: &mut Steps<L>,
+) -> PolarsResult<(TypedExpr, TypedExpr, TypedExpr)>
+    requires first { IsExpression arena.now.items first }
+    requires second { IsExpression arena.now.items second }
+    requires third { IsExpression arena.now.items third }
+    ensures first_kind { IfOk result (λ p. kind_over schema.now (tree_at arena.now.items first) ≡ Some p.0.dtype) }
+    ensures first_scalar { IfOk result (λ p. p.0.is_scalar ≡ is_scalar (tree_at arena.now.items first)) }
+    ensures second_kind { IfOk result (λ p. kind_over schema.now (tree_at arena.now.items second) ≡ Some p.1.dtype) }
+    ensures second_scalar { IfOk result (λ p. p.1.is_scalar ≡ is_scalar (tree_at arena.now.items second)) }
+    ensures third_kind { IfOk result (λ p. kind_over schema.now (tree_at arena.now.items third) ≡ Some p.2.dtype) }
+    ensures third_scalar { IfOk result (λ p. p.2.is_scalar ≡ is_scalar (tree_at arena.now.items third)) }
+    ensures refused { IfErr result (IsErrorAmong at schema.now (tree_parts (tree_at arena.now.items first) ++ (tree_parts (tree_at arena.now.items second) ++ tree_parts (tree_at arena.now.items third)))) }
+    ensures steps { steps.new ≤ steps.old + (tree_size (tree_at arena.now.items first) + (tree_size (tree_at arena.now.items second) + tree_size (tree_at arena.now.items third))) }
+{
+    let first = type_expr(alloc, at, first, arena, schema, steps)?;
+    let second = type_expr(alloc, at, second, arena, schema, steps)?;
+    let third = type_expr(alloc, at, third, arena, schema, steps)?;
+    Ok((first, second, third))
 }
 
 // Whether a slice takes this as a bound.

@@ -9,6 +9,12 @@ use Rattle.ps_typing.proofs.kinds.+typing.Given as goal
 abbrev pub decreases-type_expr : goal.decreases-type_expr
 decreases-type_expr g l = 2 * tree_size (tree_at l.arena.now.items l.expr)
 
+abbrev pub decreases-type_two : goal.decreases-type_two
+decreases-type_two g l = 2 * (tree_size (tree_at l.arena.now.items l.first) + tree_size (tree_at l.arena.now.items l.second)) + 1
+
+abbrev pub decreases-type_three : goal.decreases-type_three
+decreases-type_three g l = 2 * (tree_size (tree_at l.arena.now.items l.first) + (tree_size (tree_at l.arena.now.items l.second) + tree_size (tree_at l.arena.now.items l.third))) + 1
+
 abbrev pub decreases-type_keys : goal.decreases-type_keys
 decreases-type_keys g l = 2 * trees_size (trees_of (tree_at l.arena.now.items) l.keys.now) + 1
 
