@@ -1,1 +1,3 @@
 mod Walking
+mod Places
+mod Lines

@@ -1,14 +1,14 @@
 -- A walk step by step.
-use Rattle.std.proofs.Common.{◌≡◌, ◌≢◌, ◌⊎◌, inl, inr, ℕ, zero, suc, ◌+◌, ◌<◌, ◌≤◌, Bool, true, false, cond, List, [], ◌∷◌, ◌++◌, length, drop, Option, Some, None, refl, sym, ap, subst, ◌∙◌, arith, map}
+use Rattle.std.proofs.Common.{◌≡◌, ◌≢◌, ◌⊎◌, inl, inr, ℕ, zero, suc, ◌+◌, ◌<◌, ◌≤◌, Bool, true, false, List, [], ◌∷◌, ◌++◌, length, drop, Option, Some, None, refl, sym, ap, subst, ◌∙◌, arith}
 use Rattle.std.proofs.lemmas.List.{length-map}
 use Rattle.std.proofs.lemmas.Bool.{eqb-false, eqb-true}
-use Rattle.std.specs.Prelude.{IfSome, MatchOption, fold, is_some, slice_get, IsSome, if◌then◌else◌, ◌==◌, ◌||◌}
-use Rattle.std.specs.List.{AllByRecursion, list_any}
+use Rattle.std.specs.Prelude.{IfSome, MatchOption, fold, is_some, slice_get, IsSome, ◌==◌}
+use Rattle.std.specs.List.{AllByRecursion}
 use Rattle.keyed_slots.specs.Slots.{Updates, value_at}
 use Rattle.pu_base.specs.declared.arena.Node.{Node}
 use Rattle.ps_frame.specs.Trees.{Tree}
 use Rattle.ps_phys.specs.Shown.{ReadsWhatIsThere, inputs_of, node_of_slot, nodes_of, stream_of}
-use Rattle.ps_phys.specs.Underway.{AreLeft, AreThere, IsUnderway, Standing, goes_all_back, goes_back, inputs_or_none, looks_at, looks_left, looks_on_way, numbers_in, slot_inputs, slot_reads, unmet}
+use Rattle.ps_phys.specs.Underway.{AreLeft, IsUnderway, Standing, goes_all_back, goes_back, inputs_or_none, looks_at, looks_left, looks_on_way, numbers_in, slot_inputs, slot_reads, unmet}
 use Rattle.ps_phys.specs.Walks.{Stream, Walk, goes_to, is_one_of, leaves, leaving_order, meets, numbers_of, numbers_read, order_from}
 use Rattle.ps_phys.specs.declared.order.Open.{Open}
 use Rattle.ps_phys.specs.declared.phys.PhysNode.{PhysNode}

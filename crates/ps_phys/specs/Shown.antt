@@ -1,5 +1,5 @@
 -- How a slot map of physical nodes shows a shape.
-use Rattle.std.specs.Prelude.{◌≡◌, ℕ, zero, suc, ℤ, pos, negsuc, List, [], ◌∷◌, map, Option, Some, None, option_map, unwrap_or, IsSome}
+use Rattle.std.specs.Prelude.{◌≡◌, ℕ, suc, ℤ, pos, negsuc, List, [], ◌∷◌, map, Option, Some, option_map, unwrap_or, IsSome}
 use Rattle.std.specs.List.{AllByRecursion}
 use Rattle.keyed_slots.specs.Slots.{value_at}
 use Rattle.pu_base.specs.declared.arena.Node.{Node}

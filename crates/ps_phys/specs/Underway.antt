@@ -1,5 +1,5 @@
 -- What a walk over a slot map knows while it is under way.
-use Rattle.std.specs.Prelude.{◌≡◌, ℕ, zero, suc, ◌+◌, ◌≤◌, List, [], ◌∷◌, ◌++◌, map, fold, drop, length, Option, Some, None, is_some, IsSome, if◌then◌else◌}
+use Rattle.std.specs.Prelude.{◌≡◌, ℕ, zero, suc, ◌+◌, ◌≤◌, List, [], ◌∷◌, map, fold, drop, length, Option, Some, None, is_some, IsSome, if◌then◌else◌}
 use Rattle.std.specs.List.{AllByRecursion}
 use Rattle.keyed_slots.specs.Slots.{value_at}
 use Rattle.ps_phys.specs.Shown.{inputs_of}

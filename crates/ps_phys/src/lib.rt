@@ -4,3 +4,4 @@
 pub mod examples;
 pub mod order;
 pub mod phys;
+pub mod text;
