@@ -2,18 +2,12 @@
 #![tactic(auto)]
 
 #[cfg(test)]
+mod cells;
+#[cfg(test)]
 mod columns;
-#[cfg(test)]
-mod made;
-#[cfg(test)]
-mod pushes;
 #[cfg(test)]
 mod refusals;
 #[cfg(test)]
 mod schemas;
 #[cfg(test)]
-mod sizes;
-#[cfg(test)]
 mod tables;
-#[cfg(test)]
-mod views;
