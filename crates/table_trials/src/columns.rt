@@ -137,6 +137,7 @@ fn tell(
     match word {
         "run" => push_run(alloc, text, column)?,
         "len" => write!(text, " {}", column.len())?,
+        "runs" => write!(text, " {}", column.n_chunks())?,
         "at" => push_cell(text, column, number(rest))?,
         "view" => text.push_str(view(column))?,
         "few" => write!(text, " {}", column.picks().is_some())?,
@@ -260,7 +261,7 @@ pushes idx cells 2000 among 7 nulls 5, copy, above, len, at 2405, at 4798 -> 480
 pushes idx cells 2000 among 7 nulls 5, copy, above, with_null 4798, at 0, at 1 -> 4 null
 pushes idx cells 2000 among 7, slice 1990 20, len, view, at 0 -> 10 shown 2
 pushes idx cells 10000 among 6000 nulls 5, len, at 1, at 5999, at 7198, at 7200, at 11998 -> 12000 1 null 5999 0 3999
-pushes idx cells 12000 each 2, few, len, at 1, at 11999 -> true 12000 0 5999
+pushes idx cells 12000 each 2, few, runs, len, at 1, at 11999 -> true 1 12000 0 5999
 typed int cells 6000 zeros 16, few -> false
 typed str cells 6000 zeros 16, few -> true
 pushes idx cells 65538, len, at 0, at 65535, at 65536, at 65537 -> 65538 0 65535 65536 65537
@@ -272,17 +273,17 @@ pushes idx cells 3, with_null 2, run -> 2 null
 empty, view, len -> shown 0
 values bool cells 3, at 0, at 1, at 2 -> false true false
 pushes int cells 1 from 3, repeat 4, len, at 3 -> 4 -3
-pushes idx cells 5000, pushes idx cells 6000 from 70000, above, len, view, at 4999, at 5000 -> 11000 hidden 4999 70000
+pushes idx cells 5000, pushes idx cells 6000 from 70000, above, runs, len, view, at 4999, at 5000 -> 2 11000 hidden 4999 70000
 pushes idx cells 5000, pushes idx cells 6000 from 70000, above, pick 5000 4999, at 0, at 1 -> 70000 4999
-pushes idx cells 5000, pushes idx cells 6000 from 70000, above, slice 4999 2, at 0, at 1 -> 4999 70000
+pushes idx cells 5000, pushes idx cells 6000 from 70000, above, slice 4999 2, runs, at 0, at 1 -> 2 4999 70000
 pushes idx cells 5000, pushes idx cells 6000 from 70000, above, slice 5000 6000, len, view -> 6000 shown
-pushes idx cells 5000, pushes idx cells 6000 from 70000, above, slice 10000 5000, len, at 999 -> 1000 75999
+pushes idx cells 5000, pushes idx cells 6000 from 70000, above, slice 10000 5000, runs, len, at 999 -> 1 1000 75999
 pushes idx cells 5000, pick 4999 7, pushes idx cells 6000 from 70000, above, len, at 0, at 1, at 2, at 6001 -> 6002 4999 7 70000 75999
-pushes idx cells 6000 from 70000, pushes idx cells 5000, pick 4999 7, above, at 0, at 5999, at 6000, at 6001 -> 70000 75999 4999 7
-pushes idx cells 12000, copy, slice 1000 5000, turn, slice 6000 5000, above, len, at 0, at 9999 -> 10000 1000 10999
-pushes idx cells 12000, copy, slice 6000 5000, turn, slice 1000 5000, above, at 4999, at 5000 -> 10999 1000
-pushes idx cells 100000, built 20, len, at 0, at 99999 -> 100000 0 99999
-pushes idx cells 5000, framed, len, at 0, at 1, at 5001, at 10001 -> 10002 9 0 null 4999
+pushes idx cells 6000 from 70000, pushes idx cells 5000, pick 4999 7, above, runs, at 0, at 5999, at 6000, at 6001 -> 2 70000 75999 4999 7
+pushes idx cells 12000, copy, slice 1000 5000, turn, slice 6000 5000, above, runs, len, at 0, at 9999 -> 1 10000 1000 10999
+pushes idx cells 12000, copy, slice 6000 5000, turn, slice 1000 5000, above, runs, at 4999, at 5000 -> 2 10999 1000
+pushes idx cells 100000, built 20, runs, len, at 0, at 99999 -> 1 100000 0 99999
+pushes idx cells 5000, framed, runs, len, at 0, at 1, at 5001, at 10001 -> 4 10002 9 0 null 4999
 pushes int cells 3, framed -> Kind
 ";
 
