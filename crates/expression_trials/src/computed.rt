@@ -1,4 +1,5 @@
 // Aggregates and orders of 1, null and 3, and columns that are shared.
+use crate::words::{parts, push_value};
 use ps_expr_eval::aggregate::aggregated_part;
 use ps_expr_eval::computed::{Cells, ComputedColumn, Values, computed_whole};
 use ps_expr_eval::elementwise::{Unary, unary_part};
@@ -13,58 +14,71 @@ use std::test::Fail;
 
 // 1, null and 3.
 fn numbers(alloc: Global) -> Result<ComputedColumn, AllocError> {
-    let mut values = Vec::new(alloc);
-    values.push(Value::Int64(1))?;
-    values.push(Value::Null)?;
-    values.push(Value::Int64(3))?;
+    let values = vec![in alloc; Value::Int64(1), Value::Null, Value::Int64(3)]?;
     Ok(computed_whole(DataType::Int64, values))
-}
-
-fn first_int(part: &ComputedColumn) -> Option<i64> {
-    match &part.cells {
-        Cells::Whole(values) => match values.first() {
-            Some(Value::Int64(z)) => Some(*z),
-            _ => None,
-        },
-        Cells::Mixed(_) => None,
-    }
-}
-
-fn first_count(part: &ComputedColumn) -> Option<u32> {
-    match &part.cells {
-        Cells::Whole(values) => match values.first() {
-            Some(Value::IdxSize(n)) => Some(*n),
-            _ => None,
-        },
-        Cells::Mixed(_) => None,
-    }
 }
 
 fn aggregate(alloc: Global, aggregate: IRAggExpr) -> Result<ComputedColumn, AllocError> {
     aggregated_part(alloc, aggregate, numbers(alloc)?)
 }
 
-#[test]
-fn aggregates_of_one_null_and_three(rt: HostRuntime) -> Result<(), Fail> {
+// Which of them are not null.
+fn known(alloc: Global) -> Result<ComputedColumn, AllocError> {
+    unary_part(alloc, Unary::IsNotNull, &numbers(alloc)?)
+}
+
+fn kept(alloc: Global) -> Result<ComputedColumn, AllocError> {
+    let known = known(alloc)?;
+    kept_part(alloc, &known, &known)
+}
+
+// Them by themselves, the greatest first and null last.
+fn sorted(alloc: Global) -> Result<ComputedColumn, AllocError> {
+    let keys = vec![in alloc; numbers(alloc)?]?;
+    sorted_by_part(alloc, &[true], &[true], numbers(alloc)?, keys)
+}
+
+fn computed(alloc: Global, name: &str) -> Result<ComputedColumn, AllocError> {
     let n = Node(0);
-    assert_eq!(rt;
-        first_int(&aggregate(rt.alloc(), IRAggExpr::Sum(n))?),
-        Some(4)
-    );
-    assert_eq!(rt;
-        first_count(&aggregate(rt.alloc(), IRAggExpr::NUnique(n))?),
-        Some(3)
-    );
-    assert_eq!(rt;
-        first_count(&aggregate(rt.alloc(), IRAggExpr::Count(n, false))?),
-        Some(2)
-    );
-    assert_eq!(rt;
-        first_count(&aggregate(rt.alloc(), IRAggExpr::Count(n, true))?),
-        Some(3)
-    );
-    let turned = reversed_part(rt.alloc(), numbers(rt.alloc())?)?;
-    assert_eq!(rt; first_int(&turned), Some(3));
+    match name {
+        "sum" => aggregate(alloc, IRAggExpr::Sum(n)),
+        "n_unique" => aggregate(alloc, IRAggExpr::NUnique(n)),
+        "count" => aggregate(alloc, IRAggExpr::Count(n, false)),
+        "count of all" => aggregate(alloc, IRAggExpr::Count(n, true)),
+        "reverse" => reversed_part(alloc, numbers(alloc)?),
+        "known" => known(alloc),
+        "kept" => kept(alloc),
+        _ => sorted(alloc),
+    }
+}
+
+fn told(alloc: Global, part: &ComputedColumn) -> Result<String, AllocError> {
+    let mut text = String::new(alloc);
+    for i in 0..part.cells.len() {
+        match part.cells.cell(i) {
+            Ok(value) => push_value(&mut text, value)?,
+            Err(fault) => write!(text, " {fault:?}")?,
+        }
+    }
+    Ok(text)
+}
+
+const COMPUTED: &str = "sum is 4
+n_unique is 3i
+count is 2i
+count of all is 3i
+reverse is 3 null 1
+known is true false true
+kept is true true
+sorted is 3 1 null";
+
+#[test]
+fn what_is_computed_of_one_null_and_three(rt: HostRuntime) -> Result<(), Fail> {
+    for line in COMPUTED.lines() {
+        let (name, wanted) = parts(line)?;
+        let part = computed(rt.alloc(), name)?;
+        assert_eq!(rt; told(rt.alloc(), &part)?.as_str(), wanted, "of {name}");
+    }
     Ok(())
 }
 
@@ -74,19 +88,7 @@ fn is_shared(part: &ComputedColumn) -> bool {
 
 #[test]
 fn what_is_computed_and_kept_is_shared(rt: HostRuntime) -> Result<(), Fail> {
-    let known = unary_part(rt.alloc(), Unary::IsNotNull, &numbers(rt.alloc())?)?;
-    assert!(rt; is_shared(&known));
-    let kept = kept_part(rt.alloc(), &known, &known)?;
-    assert!(rt; is_shared(&kept));
-    assert_eq!(rt; kept.cells.len(), 2);
-    Ok(())
-}
-
-#[test]
-fn the_greatest_of_themselves_goes_first(rt: HostRuntime) -> Result<(), Fail> {
-    let mut keys = Vec::new(rt.alloc());
-    keys.push(numbers(rt.alloc())?)?;
-    let sorted = sorted_by_part(rt.alloc(), &[true], &[true], numbers(rt.alloc())?, keys)?;
-    assert_eq!(rt; first_int(&sorted), Some(3));
+    assert!(rt; is_shared(&known(rt.alloc())?));
+    assert!(rt; is_shared(&kept(rt.alloc())?));
     Ok(())
 }

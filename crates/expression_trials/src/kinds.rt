@@ -53,23 +53,20 @@ fn nature_of_comparison(alloc: Global) -> Result<(bool, bool, bool), Fail> {
 }
 
 #[test]
-fn a_comparison_is_a_truth_value(rt: HostRuntime) -> Result<(), Fail> {
-    let text = answer(rt.alloc(), "a", LiteralValue::Int64(1))?;
-    assert_eq!(rt; text.as_str(), "Boolean");
-    Ok(())
-}
-
-#[test]
-fn an_unknown_column_is_named(rt: HostRuntime) -> Result<(), Fail> {
-    let text = answer(rt.alloc(), "z", LiteralValue::Int64(1))?;
-    assert_eq!(rt; text.as_str(), "ColumnNotFound at 1: z");
-    Ok(())
-}
-
-#[test]
-fn unlike_kinds_are_not_compared(rt: HostRuntime) -> Result<(), Fail> {
-    let text = answer(rt.alloc(), "a", LiteralValue::Boolean(true))?;
-    assert_eq!(rt; text.as_str(), "SchemaMismatch at 1");
+fn a_comparison_is_a_truth_value_or_refused(rt: HostRuntime) -> Result<(), Fail> {
+    let alloc = rt.alloc();
+    for (column, is_of_truth, wanted) in [
+        ("a", false, "Boolean"),
+        ("z", false, "ColumnNotFound at 1: z"),
+        ("a", true, "SchemaMismatch at 1"),
+    ] {
+        let bound = if is_of_truth {
+            LiteralValue::Boolean(true)
+        } else {
+            LiteralValue::Int64(1)
+        };
+        assert_eq!(rt; answer(alloc, column, bound)?.as_str(), wanted);
+    }
     Ok(())
 }
 

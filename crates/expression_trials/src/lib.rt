@@ -11,3 +11,5 @@ mod kinds;
 mod operands;
 #[cfg(test)]
 mod operators;
+#[cfg(test)]
+mod words;
