@@ -58,7 +58,7 @@ module _ (F : Functions) (v : ValidNodes) (exprs : List AExpr) (df : Frame) (k :
   below-entry =
       subst (λ ns. Contains ns 0) (sym (ap (named_by entry_inputs) entry-there ∙ ap (map (λ (n : Node). n.0)) (over-first k))) (contains-first 0 [])
 
-  pub entry-reached : Reached (plan_with v exprs) 1
+  entry-reached : Reached (plan_with v exprs) 1
   entry-reached = onward below-root here
 
   pub scan-reached : Reached (plan_with v exprs) 0
@@ -69,7 +69,7 @@ module _ (F : Functions) (v : ValidNodes) (exprs : List AExpr) (df : Frame) (k :
 
   -- over the table of the scan
   module _ (t : Frame) (has : t.schema ≡ plan_schemas F (plan_with v exprs) 0) where
-    pub entry-fits : FitInputs F (plan_with v exprs) 1 (t ∷ [])
+    entry-fits : FitInputs F (plan_with v exprs) 1 (t ∷ [])
     entry-fits =
         at-entry (λ e. frame_schemas (t ∷ []) ≡ schemas_at (plan_schemas F (plan_with v exprs)) (entry_inputs e)) (slice_get v.nodes 1) (tested_entry k) entry-there
         (ap (λ s. s ∷ []) has ∙ ap (schemas_at (plan_schemas F (plan_with v exprs))) (sym (over-first k)))

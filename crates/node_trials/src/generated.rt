@@ -1,9 +1,6 @@
 // Tables of small numbers, made from a seed, and rows that are compared.
 use crate::plain::Row;
-use crate::trial::{document, table_of};
-use ps_frame::column::Column;
-use ps_frame::frame::DataFrame;
-use ps_frame::value::Value;
+use crate::trial::{document, push_rows, table_of};
 use std::alloc::{AllocError, Global};
 use std::test::Fail;
 
@@ -85,56 +82,40 @@ pub fn table_text(alloc: Global, name: &str, rows: &[Row]) -> Result<String, All
     format!(in alloc; "[{keys},{numbers}]")
 }
 
-fn number(column: &Column, row: usize) -> Result<Option<i64>, Fail> {
-    if row >= column.len() {
-        return Err(Fail::from("a column is too short"));
-    }
-    match column.value(row) {
-        Value::Null => Ok(None),
-        Value::Int64(z) => Ok(Some(*z)),
-        Value::IdxSize(n) => Ok(Some(i64::from(*n))),
-        _ => Err(Fail::from("no number")),
-    }
-}
-
-fn rows_of(alloc: Global, df: &DataFrame) -> Result<Vec<Row>, Fail> {
-    let mut rows = Vec::new(alloc);
-    for i in 0..df.height() {
-        let mut row = Vec::new(alloc);
-        for column in df.get_columns() {
-            row.push(number(column, i)?)?;
+/// Rows as text, behind the end of a line each; null is shown by nothing.
+pub fn rows_text(alloc: Global, rows: &[Row]) -> Result<String, AllocError> {
+    let mut text = String::new(alloc);
+    for row in rows {
+        let mut separator = '\n';
+        for number in row {
+            text.push(separator)?;
+            separator = ',';
+            if let Some(number) = number {
+                write!(text, "{number}")?;
+            }
         }
-        rows.push(row)?;
     }
-    Ok(rows)
+    Ok(text)
 }
 
-/// The rows of a node over tables.
-pub fn rows_from(
-    alloc: Global,
-    tables: &[&str],
-    exprs: &str,
-    node: &str,
-) -> Result<Vec<Row>, Fail> {
+/// The rows of a node over tables, as text.
+pub fn rows_from(alloc: Global, tables: &[&str], exprs: &str, node: &str) -> Result<String, Fail> {
     let document = document(alloc, tables, exprs, &[node])?;
     match table_of(alloc, document.as_str())? {
-        Ok(df) => rows_of(alloc, &df),
+        Ok(df) => {
+            let mut text = String::new(alloc);
+            push_rows(&mut text, &df)?;
+            Ok(text)
+        }
         Err(_error) => Err(Fail::from("no table")),
     }
 }
 
-fn count(rows: &[Row], row: &Row) -> usize {
-    rows.iter()
-        .filter(|other| other.as_slice() == row.as_slice())
-        .count()
+fn count(text: &str, line: &str) -> usize {
+    text.lines().filter(|other| *other == line).count()
 }
 
-/// Whether these are the same rows in the same order.
-pub fn same(a: &[Row], b: &[Row]) -> bool {
-    a.len() == b.len() && a.iter().zip(b).all(|(x, y)| x.as_slice() == y.as_slice())
-}
-
-/// Whether these are the same rows in any order.
-pub fn permuted(a: &[Row], b: &[Row]) -> bool {
-    a.len() == b.len() && a.iter().all(|row| count(a, row) == count(b, row))
+/// Whether these are the same lines in any order.
+pub fn permuted(a: &str, b: &str) -> bool {
+    a.len() == b.len() && a.lines().all(|line| count(a, line) == count(b, line))
 }

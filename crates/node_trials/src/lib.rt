@@ -1,15 +1,15 @@
-// Trials of the nodes of plans: the calls of each crate on small tables, worked rows of whole plans, and a plain program
-// whose rows are compared with the engine's.
+// Trials of the nodes of plans: worked cases as text, a plain program whose rows are compared with the engine's, and the
+// maps that own their expressions.
 #![tactic(auto)]
 
 #[cfg(test)]
+mod cases;
+#[cfg(test)]
 mod compared;
 #[cfg(test)]
+mod empty_tables;
+#[cfg(test)]
 mod entries;
-#[cfg(test)]
-mod evaluated;
-#[cfg(test)]
-mod fixtures;
 pub mod functions;
 #[cfg(test)]
 mod generated;
@@ -18,27 +18,25 @@ mod groups;
 #[cfg(test)]
 mod joins;
 #[cfg(test)]
-mod keys;
+mod long_tables;
 #[cfg(test)]
 mod owned_maps;
 #[cfg(test)]
 mod plain;
 #[cfg(test)]
+mod refusals;
+#[cfg(test)]
 mod rows;
+#[cfg(test)]
+mod shared_expressions;
+#[cfg(test)]
+mod sliced_joins;
 #[cfg(test)]
 mod surveyed;
 pub mod tables;
 #[cfg(test)]
-mod tests;
-#[cfg(test)]
 mod trial;
 #[cfg(test)]
-mod validated;
-#[cfg(test)]
-mod whole_tables;
-#[cfg(test)]
-mod wide;
+mod wide_tables;
 #[cfg(test)]
 mod worked;
-#[cfg(test)]
-mod zips;

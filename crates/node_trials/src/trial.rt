@@ -1,7 +1,7 @@
 // A document's answer as text.
 ghost use Rattle.std.specs.Prelude.{◌≡◌, ◌<◌};
 
-pub use crate::functions::Same;
+use crate::functions::Same;
 use crate::tables::node_table;
 use ps_document::document::{Document, read_document};
 use ps_frame::column::Column;
@@ -59,24 +59,40 @@ fn push_cell(text: &mut String, column: &Column, row: usize) -> Result<(), Alloc
     Ok(())
 }
 
-/// The names and then the rows of a table, a line for each; null is shown by nothing.
-fn lines(alloc: Global, df: &DataFrame) -> Result<String, AllocError> {
-    let mut text = String::new(alloc);
+fn push_names(text: &mut String, df: &DataFrame) -> Result<(), AllocError> {
     for i in 0..df.schema().len() {
         if i > 0 {
             text.push(',')?;
         }
         text.push_str(df.schema().name(i).as_str())?;
     }
+    Ok(())
+}
+
+fn push_row(text: &mut String, df: &DataFrame, row: usize) -> Result<(), AllocError> {
+    for (i, column) in df.get_columns().iter().enumerate() {
+        if i > 0 {
+            text.push(',')?;
+        }
+        push_cell(text, column, row)?;
+    }
+    Ok(())
+}
+
+/// The rows of a table, behind the end of a line each; null is shown by nothing.
+pub fn push_rows(text: &mut String, df: &DataFrame) -> Result<(), AllocError> {
     for row in 0..df.height() {
         text.push('\n')?;
-        for (i, column) in df.get_columns().iter().enumerate() {
-            if i > 0 {
-                text.push(',')?;
-            }
-            push_cell(&mut text, column, row)?;
-        }
+        push_row(text, df, row)?;
     }
+    Ok(())
+}
+
+/// The names and then the rows of a table, a line for each.
+pub fn lines(alloc: Global, df: &DataFrame) -> Result<String, AllocError> {
+    let mut text = String::new(alloc);
+    push_names(&mut text, df)?;
+    push_rows(&mut text, df)?;
     Ok(text)
 }
 
@@ -110,12 +126,6 @@ pub fn document(
     format!(in alloc;
         "{{\"tables\":[{tables}],\"exprs\":[{exprs}],\"nodes\":[{scans}{nodes},[\"sink\",{last}]],\"root\":{root}}}"
     )
-}
-
-/// What is answered of nodes over a scan of each table: the lines of the last one's table, or the error.
-pub fn run(alloc: Global, tables: &[&str], exprs: &str, nodes: &[&str]) -> Result<String, Fail> {
-    let document = document(alloc, tables, exprs, nodes)?;
-    answer(alloc, document.as_str())
 }
 
 /// What is answered of a document: its table's lines, or the error.

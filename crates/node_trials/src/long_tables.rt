@@ -1,0 +1,89 @@
+// Nodes over many rows, with few keys and with more than 4,096.
+use crate::cases::flaws;
+use std::test::Fail;
+
+// A column of 65,536 equal cells, beside itself, has 2^32 pairs of rows.
+const TOO_MANY_PAIRS: &str = r#"
+tables [["k","int",[{0..65536:0}]]]
+exprs ["col","k"]
+["join",0,0,"cross",[],[],null,false,"m:m",null] -> OutOfBounds Rows at 1
+["join",0,0,"inner",[0],[0],null,false,"m:m",null] -> OutOfBounds Rows at 1
+"#;
+
+#[test]
+fn too_many_rows_are_refused_at_once(rt: HostRuntime) -> Result<(), Fail> {
+    assert_eq!(rt; flaws(rt.alloc(), TOO_MANY_PAIRS)?.as_str(), "");
+    Ok(())
+}
+
+// Cell i of n is i modulo 7, and of b null where i is divisible by 3: few values in many cells.
+const FEW_KEYS: &str = r#"
+tables [["n","int",[{0..300:0,1,2,3,4,5,6}]],["b","bool",[{0..700:null,true,false}]]]
+exprs ["col","n"],["col","b"],["len"]
+["group_by",0,[["n",0],["b",1]],[["l",2]],true,null] -> n,b,l/0,,100/1,true,100/2,false,100/3,,100/4,true,100/5,false,100/6,,100/0,true,100/1,false,100/2,,100/3,true,100/4,false,100/5,,100/6,true,100/0,false,100/1,,100/2,true,100/3,false,100/4,,100/5,true,100/6,false,100
+["distinct",0,["n"],true,"last",[0,2]] -> n,b/0,false/1,
+"#;
+
+#[test]
+fn keys_are_known_by_the_places_of_few_values(rt: HostRuntime) -> Result<(), Fail> {
+    assert_eq!(rt; flaws(rt.alloc(), FEW_KEYS)?.as_str(), "");
+    Ok(())
+}
+
+const GROUPS: &str = r#"
+tables [["k","int",[{0..4200:#},null,{0..4200:#},null]],["v","int",[{0..8402:#}]]]
+exprs ["col","k"],["col","v"],["min",1],["max",1],["first",1],["last",1],["n_unique",1],["len"],["sum",0],["n_unique",0]
+["group_by",0,[["k",0]],[["min",2],["max",3],["first",4],["last",5],["n",6]],true,[4199,5]] -> k,min,max,first,last,n/4199,4199,8400,4199,8400,2/,4200,8401,4200,8401,2
+["distinct",0,["k"],true,"last",[-2,5]] -> k,v/4199,8400/,8401
+["group_by",0,[["k",0]],[],false,null] then ["select",1,[["rows",7],["k",8],["n",9]]] -> rows,k,n/4201,8817900,4201
+["distinct",0,["k","v"],false,"none",null] then ["select",1,[["rows",7],["k",8],["n",9]]] -> rows,k,n/8402,17635800,4201
+["sort",0,[0,1],[true,false],[true,false],[0,3]] -> k,v/4199,4199/4199,8400/4198,4198
+"#;
+
+#[test]
+fn more_than_4096_groups_are_told_apart(rt: HostRuntime) -> Result<(), Fail> {
+    assert_eq!(rt; flaws(rt.alloc(), GROUPS)?.as_str(), "");
+    Ok(())
+}
+
+const JOINS: &str = r#"
+tables [["k","int",[{0..4200:#},null,{0..4200:#},null]]] and [["k","int",[null,{2100..6300:#}]],["w","int",[7,{2100..6300:#}]]]
+exprs ["col","k"],["len"],["sum",0],["col","w"],["sum",3]
+["join",0,1,"inner",[0],[0],null,true,"m:m",null] then ["select",2,[["rows",1],["k",2],["w",4]]] -> rows,k,w/4202,13227900,13227914
+["join",0,1,"full",[0],[0],null,false,"m:m",null] then ["select",2,[["rows",1],["k",2],["w",4]]] -> rows,k,w/10503,17635800,24251857
+["join",0,1,"anti",[0],[0],null,true,"m:m",null] then ["select",2,[["rows",1],["k",2]]] -> rows,k/4200,4407900
+["join",0,1,"semi",[0],[0],null,false,"m:m",null] then ["select",2,[["rows",1],["k",2]]] -> rows,k/4200,13227900
+"#;
+
+#[test]
+fn more_than_4096_keys_are_joined(rt: HostRuntime) -> Result<(), Fail> {
+    assert_eq!(rt; flaws(rt.alloc(), JOINS)?.as_str(), "");
+    Ok(())
+}
+
+const SLICED_JOINS: &str = r#"
+tables [["k","int",[{0..4200:#},{0..4200:#}]],["v","int",[{0..8400:#}]]]
+exprs ["col","k"]
+["join",0,0,"inner",[0],[0],null,false,"m:m",[-2,1]] -> k,v,v_right/4199,8399,4199
+["join",0,0,"inner",[0],[0],null,false,"m:m",[8398,3]] -> k,v,v_right/4199,4199,4199/4199,4199,8399/0,4200,0
+["join",0,0,"inner",[0],[0],null,false,"m:m",[16798,3]] -> k,v,v_right/4199,8399,4199/4199,8399,8399
+"#;
+
+#[test]
+fn slices_of_a_join_of_many_keys(rt: HostRuntime) -> Result<(), Fail> {
+    assert_eq!(rt; flaws(rt.alloc(), SLICED_JOINS)?.as_str(), "");
+    Ok(())
+}
+
+const TEXTS: &str = r#"
+tables [["s","str",[{0..4200:"text number #"},null,{0..4200:"text number #"},null]]]
+exprs ["col","s"],["len"],["col","n"],["min",2],["max",2]
+["group_by",0,[["s",0]],[["n",1]],true,null] then ["select",1,[["rows",1],["least",3],["most",4]]] -> rows,least,most/4201,2,2
+["join",0,0,"semi",[0],[0],null,false,"m:m",[-1,2]] -> s/text number 4199
+"#;
+
+#[test]
+fn more_than_4096_texts_are_told_apart(rt: HostRuntime) -> Result<(), Fail> {
+    assert_eq!(rt; flaws(rt.alloc(), TEXTS)?.as_str(), "");
+    Ok(())
+}
