@@ -15,13 +15,6 @@ use std::thread::Threads;
 
 const EXPRS: &str = r#"["col","a"],["int",1],["gt",0,1],["left_out","Mean"]"#;
 
-// What a query answers, and how often its function was called.
-#[derive(Drop)]
-struct Seen {
-    answer: String,
-    calls: u64,
-}
-
 // The plan of a scan of the numbers 1 to 3, the function over it, and the nodes 2 and 3, of which the last is the root.
 fn plan(alloc: Global, nodes: &str) -> Result<Document, Fail> {
     let text = format!(in alloc;
@@ -71,7 +64,8 @@ fn shown(alloc: Global, answer: PolarsResult<Option<DataFrame>>) -> Result<Strin
     }
 }
 
-fn serial(alloc: Global, nodes: &str) -> Result<Seen, Fail> {
+// What a query answers, and how often its function was called.
+fn serial(alloc: Global, nodes: &str) -> Result<String, Fail> {
     let Document {
         nodes,
         mut exprs,
@@ -79,13 +73,15 @@ fn serial(alloc: Global, nodes: &str) -> Result<Seen, Fail> {
     } = plan(alloc, nodes)?;
     let functions = CountingFunctions::new();
     let answer = run_query_serial(alloc, root, nodes, &mut exprs, &functions, &options()?);
-    Ok(Seen {
-        answer: shown(alloc, answer)?,
-        calls: functions.calls(),
-    })
+    let (answer, calls) = (shown(alloc, answer)?, functions.calls());
+    Ok(format!(in alloc; "{answer}, {calls} calls")?)
 }
 
-fn by_workers<R: Threads + Wait + Sync>(rt: &R, alloc: Global, nodes: &str) -> Result<Seen, Fail> {
+fn by_workers<R: Threads + Wait + Sync>(
+    rt: &R,
+    alloc: Global,
+    nodes: &str,
+) -> Result<String, Fail> {
     let Document {
         nodes,
         mut exprs,
@@ -102,64 +98,39 @@ fn by_workers<R: Threads + Wait + Sync>(rt: &R, alloc: Global, nodes: &str) -> R
         &NoGate,
         &options()?,
     );
-    Ok(Seen {
-        answer: shown(alloc, answer)?,
-        calls: functions.calls(),
-    })
+    let (answer, calls) = (shown(alloc, answer)?, functions.calls());
+    Ok(format!(in alloc; "{answer}, {calls} calls")?)
 }
 
-#[test]
-fn a_plan_that_is_refused_calls_no_function(rt: HostRuntime) -> Result<(), Fail> {
-    let alloc = rt.alloc();
-    for (nodes, wanted) in [
-        (
-            r#"["project",1,["z"]],["sink",2]"#,
-            "ColumnNotFound at 2: z",
-        ),
-        (r#"["filter",1,1],["sink",2]"#, "SchemaMismatch at 2"),
-        (r#"["map",1,1],["sink",2]"#, "InvalidPlan Shape at 2"),
-        (
-            r#"["cache",1,7],["file_sink",2]"#,
-            "Unsupported FileSink at 3",
-        ),
-        (
-            r#"["union",[1,2],null],["sink",2]"#,
-            "InvalidPlan Shape at 2",
-        ),
-        (
-            r#"["select",1,[["a",3]]],["sink",2]"#,
-            "Unsupported Mean at 2",
-        ),
-        (
-            r#"["sort",1,[],[],[],null],["sink",2]"#,
-            "InvalidPlan Keys at 2",
-        ),
-        (r#"["hconcat",[0,1]],["sink",2]"#, "Duplicate at 2: a"),
-    ] {
-        let seen = serial(alloc, nodes)?;
-        assert_eq!(rt; seen.answer.as_str(), wanted, "at {nodes}");
-        assert_eq!(rt; seen.calls, 0, "at {nodes}");
-    }
-    Ok(())
-}
+const CALLS: &str = r#"
+["project",1,["z"]],["sink",2] -> ColumnNotFound at 2: z, 0 calls
+["filter",1,1],["sink",2] -> SchemaMismatch at 2, 0 calls
+["map",1,1],["sink",2] -> InvalidPlan Shape at 2, 0 calls
+["cache",1,7],["file_sink",2] -> Unsupported FileSink at 3, 0 calls
+["union",[1,2],null],["sink",2] -> InvalidPlan Shape at 2, 0 calls
+["select",1,[["a",3]]],["sink",2] -> Unsupported Mean at 2, 0 calls
+["sort",1,[],[],[],null],["sink",2] -> InvalidPlan Keys at 2, 0 calls
+["hconcat",[0,1]],["sink",2] -> Duplicate at 2: a, 0 calls
+["project",1,["a"]],["sink",2] -> a 1 2 3, 1 calls
+["filter",1,2],["sink",2] -> a 2 3, 1 calls
+["map",1,0],["sink",2] -> a 1 2 3, 2 calls
+["cache",1,7],["sink",2] -> a 1 2 3, 1 calls
+["union",[1,0],null],["sink",2] -> a 1 2 3 1 2 3, 1 calls
+["select",1,[["a",0]]],["sink",2] -> a 1 2 3, 1 calls
+["slice",1,1,2],["sink",2] -> a 2 3, 1 calls
+["slice",1,-1,2],["sink",2] -> a 3, 1 calls
+["hconcat",[1]],["sink",2] -> a 1 2 3, 1 calls
+"#;
 
 #[test]
-fn each_node_of_an_answered_plan_calls_its_function_once(rt: HostRuntime) -> Result<(), Fail> {
-    let alloc = rt.alloc();
-    for (nodes, calls, wanted) in [
-        (r#"["project",1,["a"]],["sink",2]"#, 1, "a 1 2 3"),
-        (r#"["filter",1,2],["sink",2]"#, 1, "a 2 3"),
-        (r#"["map",1,0],["sink",2]"#, 2, "a 1 2 3"),
-        (r#"["cache",1,7],["sink",2]"#, 1, "a 1 2 3"),
-        (r#"["union",[1,0],null],["sink",2]"#, 1, "a 1 2 3 1 2 3"),
-        (r#"["select",1,[["a",0]]],["sink",2]"#, 1, "a 1 2 3"),
-        (r#"["slice",1,1,2],["sink",2]"#, 1, "a 2 3"),
-        (r#"["slice",1,-1,2],["sink",2]"#, 1, "a 3"),
-        (r#"["hconcat",[1]],["sink",2]"#, 1, "a 1 2 3"),
-    ] {
-        let seen = serial(alloc, nodes)?;
-        assert_eq!(rt; seen.answer.as_str(), wanted, "at {nodes}");
-        assert_eq!(rt; seen.calls, calls, "at {nodes}");
+fn no_refused_plan_and_each_node_of_an_answered_one_calls_its_function(
+    rt: HostRuntime,
+) -> Result<(), Fail> {
+    for line in CALLS.trim().lines() {
+        let Some((nodes, wanted)) = line.split_once(" -> ") else {
+            return Err(Fail::from("nodes without an answer"));
+        };
+        assert_eq!(rt; serial(rt.alloc(), nodes)?.as_str(), wanted, "at {nodes}");
     }
     Ok(())
 }
@@ -168,10 +139,8 @@ fn each_node_of_an_answered_plan_calls_its_function_once(rt: HostRuntime) -> Res
 fn workers_call_it_as_often(rt: HostRuntime) -> Result<(), Fail> {
     let alloc = rt.alloc();
     let refused = by_workers(&rt, alloc, r#"["filter",1,1],["sink",2]"#)?;
-    assert_eq!(rt; refused.answer.as_str(), "SchemaMismatch at 2");
-    assert_eq!(rt; refused.calls, 0);
+    assert_eq!(rt; refused.as_str(), "SchemaMismatch at 2, 0 calls");
     let answered = by_workers(&rt, alloc, r#"["filter",1,2],["sink",2]"#)?;
-    assert_eq!(rt; answered.answer.as_str(), "a 2 3");
-    assert_eq!(rt; answered.calls, 1);
+    assert_eq!(rt; answered.as_str(), "a 2 3, 1 calls");
     Ok(())
 }

@@ -23,60 +23,44 @@ fn written_of<R: Threads + Wait + Sync + Alloc<A = Global>>(
     Ok(written)
 }
 
+// The cells of a column that is answered as it is written, and those that no document has.
+const NUMBERS: &str =
+    "0 7 10 99999999999999999 100000000000000000 999999999999999999 1000000000000000000 9223372036854775806 9223372036854775807 -1 -999999999999999999 -9223372036854775808";
+
+const NO_JSON: &str = "00 07 -07 000000000000000001";
+
+const NO_NUMBERS: &str = "-0 1.0 1e3 9223372036854775808 -9223372036854775809 99999999999999999999";
+
 #[test]
 fn each_number_is_as_it_is_written(rt: HostRuntime) -> Result<(), Fail> {
-    for cell in [
-        "0",
-        "7",
-        "10",
-        "99999999999999999",
-        "100000000000000000",
-        "999999999999999999",
-        "1000000000000000000",
-        "9223372036854775806",
-        "9223372036854775807",
-        "-1",
-        "-999999999999999999",
-        "-9223372036854775808",
-    ] {
+    for cell in NUMBERS.split(" ") {
         let wanted = format!(in rt.alloc(); "a\n{cell}\n")?;
         assert_eq!(rt;
             written_of(&rt, "int", cell)?.as_slice(),
             wanted.as_str().as_bytes()
         );
     }
-    assert_eq!(rt;
-        written_of(&rt, "idx", "4294967295")?.as_slice(),
-        b"a\n4294967295\n".as_slice()
-    );
+    let greatest = written_of(&rt, "idx", "4294967295")?;
+    assert_eq!(rt; greatest.as_slice(), b"a\n4294967295\n".as_slice());
     Ok(())
 }
 
 #[test]
 fn other_numbers_are_refused(rt: HostRuntime) -> Result<(), Fail> {
-    for cell in ["00", "07", "-07", "000000000000000001"] {
+    for cell in NO_JSON.split(" ") {
         assert_eq!(rt;
             written_of(&rt, "int", cell)?.as_slice(),
             b"BadJson\n".as_slice()
         );
     }
-    for cell in [
-        "-0",
-        "1.0",
-        "1e3",
-        "9223372036854775808",
-        "-9223372036854775809",
-        "99999999999999999999",
-    ] {
+    for cell in NO_NUMBERS.split(" ") {
         assert_eq!(rt;
             written_of(&rt, "int", cell)?.as_slice(),
             b"BadDocument\n".as_slice()
         );
     }
-    assert_eq!(rt;
-        written_of(&rt, "idx", "4294967296")?.as_slice(),
-        b"BadDocument\n".as_slice()
-    );
+    let above = written_of(&rt, "idx", "4294967296")?;
+    assert_eq!(rt; above.as_slice(), b"BadDocument\n".as_slice());
     Ok(())
 }
 

@@ -1,6 +1,6 @@
 // Runs of the program over sources and sinks in memory.
 use ps_exec::gate::NoGate;
-use std::alloc::Global;
+use std::alloc::{AllocError, Global};
 use std::sync::Wait;
 use std::test::Fail;
 use std::thread::Threads;
@@ -87,104 +87,105 @@ pub(crate) fn run<R: Threads + Wait + Sync + Alloc<A = Global>>(
     })
 }
 
-#[test]
-fn documents_are_answered_or_refused(rt: HostRuntime) -> Result<(), Fail> {
-    let table: [(&str, u8, &str, &str); 6] = [
-        (FILTER, 0, "a\n2\n3\n", ""),
-        (
-            r#"{"root":4,"nodes":[["scan",0,null],["group_by",0,[["k",0]],[["s",2]],true,null],["join",0,1,"left",[0],[0],null,false,"m:m",null],["sort",2,[1],[true],[false],[1,2]],["sink",3]],"exprs":[["col","k"],["col","a"],["sum",1]],"tables":[[["k","str",["x","y","x"]],["a","int",[1,2,3]]]]}"#,
-            0,
-            "k,a,s\ny,2,2\nx,1,4\n",
-            "",
-        ),
-        (
-            r#"{"tables":[[["a","int",[9223372036854775808]]]],"exprs":[],"nodes":[["scan",0,null],["sink",0]],"root":1}"#,
-            3,
-            "",
-            "BadDocument\n",
-        ),
-        ("", 3, "", "BadJson\n"),
-        ("[1.5]", 3, "", "BadDocument\n"),
-        (
-            r#"{"tables":[],"exprs":[],"nodes":[],"root":0}"#,
-            4,
-            "",
-            "InvalidPlan Shape at 0\n",
-        ),
-    ];
-    for (document, status, out, err) in table {
-        let left = run(&rt, &whole(document))?;
-        assert_eq!(rt; left.status, status);
-        assert_eq!(rt; left.out.as_slice(), out.as_bytes());
-        assert_eq!(rt; left.err.as_slice(), err.as_bytes());
+// The bytes of lines as one line, with `/` between them.
+fn push_lines(text: &mut String, lines: &[u8]) -> Result<(), AllocError> {
+    for (i, byte) in lines.iter().enumerate() {
+        match *byte {
+            b'\n' if i.saturating_add(1) == lines.len() => {}
+            b'\n' => text.push('/')?,
+            byte => text.push(char::from(byte))?,
+        }
     }
     Ok(())
 }
+
+/// How a run ended: the lines of the answer, with `/` between them, or a status and its line.
+pub(crate) fn end(alloc: Global, left: &Left) -> Result<String, AllocError> {
+    let mut text = String::new(alloc);
+    if left.status != 0 {
+        write!(text, "{}: ", left.status)?;
+    }
+    let (written, other) = if left.status == 0 {
+        (&left.out, &left.err)
+    } else {
+        (&left.err, &left.out)
+    };
+    push_lines(&mut text, written.as_slice())?;
+    if !other.is_empty() {
+        text.push_str(" and more")?;
+    }
+    Ok(text)
+}
+
+/// The words of a line, which has spaces between them; of an empty one none.
+pub(crate) fn split<'a>(alloc: Global, line: &'a str) -> Result<Vec<&'a str>, AllocError> {
+    let mut words = Vec::new(alloc);
+    if line.is_empty() {
+        return Ok(words);
+    }
+    for word in line.split(" ") {
+        words.push(word)?;
+    }
+    Ok(words)
+}
+
+// A document, and how a run over it ends.
+const DOCUMENTS: &str = r#"
+{"tables":[[["a","int",[1,2,3]]]],"exprs":[["col","a"],["int",1],["gt",0,1]],"nodes":[["scan",0,null],["filter",0,2],["sink",1]],"root":2} -> a/2/3
+{"root":4,"nodes":[["scan",0,null],["group_by",0,[["k",0]],[["s",2]],true,null],["join",0,1,"left",[0],[0],null,false,"m:m",null],["sort",2,[1],[true],[false],[1,2]],["sink",3]],"exprs":[["col","k"],["col","a"],["sum",1]],"tables":[[["k","str",["x","y","x"]],["a","int",[1,2,3]]]]} -> k,a,s/y,2,2/x,1,4
+{"tables":[[["a","int",[9223372036854775808]]]],"exprs":[],"nodes":[["scan",0,null],["sink",0]],"root":1} -> 3: BadDocument
+ -> 3: BadJson
+[1.5] -> 3: BadDocument
+{"tables":[],"exprs":[],"nodes":[],"root":0} -> 4: InvalidPlan Shape at 0
+"#;
+
+#[test]
+fn documents_are_answered_or_refused(rt: HostRuntime) -> Result<(), Fail> {
+    for line in DOCUMENTS.trim().lines() {
+        let Some((document, wanted)) = line.split_once(" -> ") else {
+            return Err(Fail::from("a document without an end"));
+        };
+        let left = run(&rt, &whole(document))?;
+        assert_eq!(rt; end(rt.alloc(), &left)?.as_str(), wanted, "of {document}");
+    }
+    Ok(())
+}
+
+// How a run of these words over the filter ends.
+fn end_of<R: Threads + Wait + Sync + Alloc<A = Global>>(
+    rt: &R,
+    words: &str,
+) -> Result<String, Fail> {
+    let words = split(rt.alloc(), words)?;
+    let given = Given {
+        words: words.as_slice(),
+        ..whole(FILTER)
+    };
+    Ok(end(rt.alloc(), &run(rt, &given)?)?)
+}
+
+const NO_COMMANDS: [&str; 5] = ["", "trace", "run run", "run --workers 0", "run --rows"];
 
 #[test]
 fn other_words_are_no_command(rt: HostRuntime) -> Result<(), Fail> {
-    let table: [&[&str]; 5] = [
-        &[],
-        &["trace"],
-        &["run", "run"],
-        &["run", "--workers", "0"],
-        &["run", "--rows"],
-    ];
-    for words in table {
-        let given = Given {
-            words,
-            ..whole(FILTER)
-        };
-        let left = run(&rt, &given)?;
-        assert_eq!(rt; left.status, 2);
-        assert_eq!(rt; left.out.len(), 0);
-        assert_eq!(rt; left.err.as_slice(), "Usage\n".as_bytes());
+    for words in NO_COMMANDS {
+        assert_eq!(rt; end_of(&rt, words)?.as_str(), "2: Usage", "of {words}");
     }
     Ok(())
 }
 
-#[test]
-fn options_change_no_answer(rt: HostRuntime) -> Result<(), Fail> {
-    let table: [&[&str]; 2] = [
-        &["run", "--serial"],
-        &[
-            "run",
-            "--rows",
-            "1",
-            "--workers",
-            "256",
-            "--partitions",
-            "3",
-            "--seed",
-            "7",
-        ],
-    ];
-    for words in table {
-        let given = Given {
-            words,
-            ..whole(FILTER)
-        };
-        let left = run(&rt, &given)?;
-        assert_eq!(rt; left.status, 0);
-        assert_eq!(rt; left.out.as_slice(), "a\n2\n3\n".as_bytes());
-    }
-    Ok(())
-}
+const COMMANDS: &str = "run --serial -> a/2/3
+run --rows 1 --workers 256 --partitions 3 --seed 7 -> a/2/3
+--version -> plan_tool 0.1.0
+--help -> plan_tool answers queries: a document of tables and a plan on standard input, the table as CSV on standard output.//plan_tool run [--workers N] [--rows N] [--partitions N] [--seed N] [--serial]/plan_tool --help/plan_tool --version";
 
 #[test]
-fn help_and_version_are_told(rt: HostRuntime) -> Result<(), Fail> {
-    let help =
-        "plan_tool answers queries: a document of tables and a plan on standard input, the table as CSV on standard output.\n\nplan_tool run [--workers N] [--rows N] [--partitions N] [--seed N] [--serial]\nplan_tool --help\nplan_tool --version\n";
-    let table: [(&[&str], &str); 2] = [(&["--help"], help), (&["--version"], "plan_tool 0.1.0\n")];
-    for (words, text) in table {
-        let given = Given {
-            words,
-            ..whole(FILTER)
+fn options_change_no_answer_and_help_is_told(rt: HostRuntime) -> Result<(), Fail> {
+    for line in COMMANDS.lines() {
+        let Some((words, wanted)) = line.split_once(" -> ") else {
+            return Err(Fail::from("words without an end"));
         };
-        let left = run(&rt, &given)?;
-        assert_eq!(rt; left.status, 0);
-        assert_eq!(rt; left.out.as_slice(), text.as_bytes());
-        assert_eq!(rt; left.err.len(), 0);
+        assert_eq!(rt; end_of(&rt, words)?.as_str(), wanted, "of {words}");
     }
     Ok(())
 }
@@ -198,10 +199,10 @@ fn each_read_may_fail(rt: HostRuntime) -> Result<(), Fail> {
             failing_read: Some(call),
             ..whole(FILTER)
         };
-        let left = run(&rt, &given)?;
-        assert_eq!(rt; left.status, 6);
-        assert_eq!(rt; left.out.len(), 0);
-        assert_eq!(rt; left.err.as_slice(), "ReadFault\n".as_bytes());
+        assert_eq!(rt;
+            end(rt.alloc(), &run(&rt, &given)?)?.as_str(),
+            "6: ReadFault"
+        );
     }
     let given = Given {
         chunk: 1,
@@ -252,9 +253,7 @@ fn a_document_that_is_cut_is_none(rt: HostRuntime) -> Result<(), Fail> {
             document: &FILTER.as_bytes()[..len],
             ..whole(FILTER)
         };
-        let left = run(&rt, &given)?;
-        assert_eq!(rt; left.status, 3);
-        assert_eq!(rt; left.err.as_slice(), "BadJson\n".as_bytes());
+        assert_eq!(rt; end(rt.alloc(), &run(&rt, &given)?)?.as_str(), "3: BadJson");
     }
     Ok(())
 }
@@ -267,10 +266,7 @@ fn one_byte_too_many_is_too_long(rt: HostRuntime) -> Result<(), Fail> {
         chunk: MAX_DOCUMENT_BYTES,
         ..whole("")
     };
-    let left = run(&rt, &given)?;
-    assert_eq!(rt; left.status, 8);
-    assert_eq!(rt; left.out.len(), 0);
-    assert_eq!(rt; left.err.as_slice(), "TooLong\n".as_bytes());
+    assert_eq!(rt; end(rt.alloc(), &run(&rt, &given)?)?.as_str(), "8: TooLong");
     let given = Given {
         document: &spaces.as_slice()[1..],
         chunk: MAX_DOCUMENT_BYTES,

@@ -1,84 +1,71 @@
 // Words, and the commands that they are.
-use ps_options::options::Options;
-use std::alloc::Global;
+use std::alloc::{AllocError, Global};
 use std::test::Fail;
 use tool_words::command::{Command, command_of};
 
-fn command(alloc: Global, words: &[&str]) -> Result<Option<Command>, Fail> {
-    let mut all = Vec::new(alloc);
-    for word in words {
-        all.push(String::from_str(alloc, word)?)?;
+// The command of words with a space between them.
+fn command(alloc: Global, line: &str) -> Result<Option<Command>, AllocError> {
+    let mut words = Vec::new(alloc);
+    if !line.is_empty() {
+        for word in line.split(" ") {
+            words.push(String::from_str(alloc, word)?)?;
+        }
     }
-    Ok(command_of(all.as_slice()))
+    Ok(command_of(words.as_slice()))
 }
 
-fn run(workers: usize, rows: usize, partitions: usize, seed: u64, serial: bool) -> Option<Command> {
-    let options = Options::new(workers, rows, partitions, seed)?;
-    Some(Command::Run { options, serial })
+// A command with how its query is run: workers, rows, partitions, seed, and whether it is run without workers.
+fn told(alloc: Global, command: Option<Command>) -> Result<String, AllocError> {
+    match command {
+        Some(Command::Run { options, serial }) => format!(in alloc;
+            "run {} {} {} {} {serial}",
+            options.workers(),
+            options.morsel_rows(),
+            options.partitions(),
+            options.seed()
+        ),
+        Some(Command::Help) => String::from_str(alloc, "help"),
+        Some(Command::Version) => String::from_str(alloc, "version"),
+        None => String::from_str(alloc, "none"),
+    }
 }
+
+const COMMANDS: &str = "run -> run 4 100000 16 0 false
+run --serial --workers 0004 -> run 4 100000 16 0 true
+run --seed 18446744073709551615 -> run 4 100000 16 18446744073709551615 false
+run --partitions 1024 --rows 1048576 --workers 256 -> run 256 1048576 1024 0 false
+run --workers 00000000000000000001 -> run 1 100000 16 0 false
+--help -> help
+--version -> version
+ -> none
+explain -> none
+trace -> none
+make 3 -> none
+--help run -> none
+--version --version -> none
+run run -> none
+run --workers 0 -> none
+run --workers 257 -> none
+run --workers 000000000000000000004 -> none
+run --rows 1048577 -> none
+run --rows -> none
+run --partitions +5 -> none
+run --seed 18446744073709551616 -> none
+run --seed 1 --seed 1 -> none
+run --serial --serial -> none";
 
 #[test]
 fn words_are_commands(rt: HostRuntime) -> Result<(), Fail> {
-    let table: [(&[&str], Option<Command>); 7] = [
-        (&["run"], run(4, 100_000, 16, 0, false)),
-        (
-            &["run", "--serial", "--workers", "0004"],
-            run(4, 100_000, 16, 0, true),
-        ),
-        (
-            &["run", "--seed", "18446744073709551615"],
-            run(4, 100_000, 16, u64::MAX, false),
-        ),
-        (
-            &[
-                "run",
-                "--partitions",
-                "1024",
-                "--rows",
-                "1048576",
-                "--workers",
-                "256",
-            ],
-            run(256, 1 << 20, 1024, 0, false),
-        ),
-        (
-            &["run", "--workers", "00000000000000000001"],
-            run(1, 100_000, 16, 0, false),
-        ),
-        (&["--help"], Some(Command::Help)),
-        (&["--version"], Some(Command::Version)),
-    ];
-    for (words, wanted) in table {
-        assert!(rt; wanted.is_some());
-        let found = command(rt.alloc(), words)?;
-        assert_eq!(rt; found, wanted);
-    }
-    Ok(())
-}
-
-#[test]
-fn other_words_are_none(rt: HostRuntime) -> Result<(), Fail> {
-    let table: [&[&str]; 16] = [
-        &[],
-        &["explain"],
-        &["trace"],
-        &["make", "3"],
-        &["--help", "run"],
-        &["--version", "--version"],
-        &["run", "run"],
-        &["run", "--workers", "0"],
-        &["run", "--workers", "257"],
-        &["run", "--workers", "000000000000000000004"],
-        &["run", "--rows", "1048577"],
-        &["run", "--rows"],
-        &["run", "--partitions", "+5"],
-        &["run", "--seed", "18446744073709551616"],
-        &["run", "--seed", "1", "--seed", "1"],
-        &["run", "--serial", "--serial"],
-    ];
-    for words in table {
-        let found = command(rt.alloc(), words)?;
-        assert_eq!(rt; found, None);
+    let alloc = rt.alloc();
+    for line in COMMANDS.lines() {
+        let Some((words, wanted)) = line.split_once(" -> ") else {
+            return Err(Fail::from("words without a command"));
+        };
+        assert_eq!(rt;
+            told(alloc, command(alloc, words)?)?.as_str(),
+            wanted,
+            "of {words}"
+        );
     }
     Ok(())
 }
