@@ -81,6 +81,10 @@ IsRun words = IsNamed (codes "run") words
 abbrev pub IsText : List (String Global) → Type 0
 IsText words = IsNamed (codes "text") words
 
+-- the words are a command that reads a document
+abbrev pub ReadsDocument : List (String Global) → Type 0
+ReadsDocument words = IsRun words ⊎ IsText words
+
 -- the words are `--help` or `--version`, alone
 abbrev pub IsHelp : List (String Global) → Type 0
 IsHelp words = map string_bytes words ≡ codes "--help" ∷ []

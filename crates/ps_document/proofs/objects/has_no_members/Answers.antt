@@ -1,5 +1,5 @@
 use Rattle.ps_document.proofs.Members.{no_entries}
-use Rattle.ps_document.proofs.document.has_no_members.Goals as goal
+use Rattle.ps_document.proofs.objects.has_no_members.Goals as goal
 
 pub returns : goal.returns
 returns c =
