@@ -1,5 +1,5 @@
-use Rattle.ps_text.proofs.Examples as example
-use Rattle.ps_text.proofs.laws.worked_examples.Goals as goal
+use Rattle.text_queries.proofs.Examples as example
+use Rattle.text_queries.proofs.laws.worked_examples.Goals as goal
 
 pub returns-clause-longest_signs : goal.returns-clause-longest_signs
 returns-clause-longest_signs c = example.longest_signs

@@ -1,5 +1,5 @@
 -- The grammar: which tokens are an expression, a stage and a query, and which text reads as which query.
-use Rattle.std.specs.Prelude.{◌≡◌, ℕ, ℤ, pos, neg_ℤ, suc, ◌+◌, ◌-◌, ◌^◌, ◌<◌, ◌≤◌, ◌⊎◌, max, nat_eq, Bool, true, false, if◌then◌else◌, List, [], ◌∷◌, ◌++◌, codes}
+use Rattle.std.specs.Prelude.{◌≡◌, ℕ, ℤ, pos, neg_ℤ, suc, ◌^◌, ◌<◌, ◌≤◌, ◌⊎◌, nat_eq, Bool, true, false, if◌then◌else◌, List, [], ◌∷◌, ◌++◌, codes}
 use Rattle.std.specs.List.{list_any}
 use Rattle.std.specs.Str.{bytes_eq}
 use Rattle.std.specs.Str.Parse.{digits_value}
@@ -9,9 +9,9 @@ use Rattle.ps_frame.specs.declared.value.DataType.{DataType}
 use Rattle.ps_frame.specs.declared.value.DataType.TheVariants as kind
 use Rattle.ps_meaning.specs.declared.options.JoinType.{JoinType}
 use Rattle.ps_meaning.specs.declared.options.JoinType.TheVariants as how
-use Rattle.ps_text.specs.Queries.{Expr, Name, Int, Text, Truth, Null, Call, Len, Binary, Item, Key, Stage, Filter, Select, With, Group, Sort, Slice, Distinct, Join, Query, depth}
-use Rattle.ps_text.specs.declared.words.TextFn.{TextFn}
-use Rattle.ps_text.specs.declared.words.TextFn.TheVariants as fun
+use Rattle.text_queries.specs.Queries.{Expr, Name, Int, Text, Truth, Null, Call, Len, Binary, Item, Key, Stage, Filter, Select, With, Group, Sort, Slice, Distinct, Join, Query, depth}
+use Rattle.text_queries.specs.declared.words.TextFn.{TextFn}
+use Rattle.text_queries.specs.declared.words.TextFn.TheVariants as fun
 use Rattle.text_tokens.specs.Tokens.{AreTokens}
 use Rattle.text_tokens.specs.declared.token.Sign.TheVariants as sign
 use Rattle.text_tokens.specs.declared.token.Token.{Token}
@@ -107,19 +107,23 @@ IsInteger (token.Digits digits ∷ []) n = (n ≡ pos (number digits)) × (numbe
 IsInteger (token.Sign sign.Minus ∷ token.Digits digits ∷ []) n = (n ≡ neg_ℤ (pos (number digits))) × (number digits ≤ 2 ^ 63)
 IsInteger _ n = ⊥
 
--- the tokens are the expression, and its operators outside of parentheses bind at least so tightly
-pub data IsExpr : ℕ → List Token → Expr → Type 0 where
-  is_name : {least : ℕ} {t : Token} {n : List ℕ} → IsName t n → IsExpr least (t ∷ []) (Name n)
-  is_integer : {least : ℕ} {ts : List Token} {n : ℤ} → IsInteger ts n → IsExpr least ts (Int n)
-  is_text : {least : ℕ} {t : List ℕ} → IsExpr least (token.Text t ∷ []) (Text t)
-  is_truth : {least : ℕ} {b : Bool} → IsExpr least (token.Word (truth_word b) ∷ []) (Truth b)
-  is_null : {least : ℕ} {k : DataType} → IsExpr least (token.Word (codes "null") ∷ token.Word (kind_word k) ∷ []) (Null k)
-  is_call : {least : ℕ} {f : TextFn} {ts : List Token} {e : Expr} → IsExpr 1 ts e
-      → IsExpr least (token.Word (function_word f) ∷ token.Sign sign.Open ∷ ts ++ token.Sign sign.Close ∷ []) (Call f e)
-  is_len : {least : ℕ} → IsExpr least (token.Word (codes "len") ∷ token.Sign sign.Open ∷ token.Sign sign.Close ∷ []) Len
-  is_enclosed : {least : ℕ} {ts : List Token} {e : Expr} → IsExpr 1 ts e → IsExpr least (token.Sign sign.Open ∷ ts ++ token.Sign sign.Close ∷ []) e
-  is_operation : {least : ℕ} {o : Operator} {ls rs : List Token} {l r : Expr} → least ≤ binding o → IsExpr (left_binding o) ls l → IsExpr (suc (binding o)) rs r
-      → IsExpr least (ls ++ operator_token o ∷ rs) (Binary o l r)
+-- The tokens are the expression; parentheses, those of calls included, nest at most `opens` deep in them, and operators outside of parentheses bind at least as tightly as `least` says.
+pub data IsExpr : ℕ → ℕ → List Token → Expr → Type 0 where
+  is_name : {opens least : ℕ} {t : Token} {n : List ℕ} → IsName t n → IsExpr opens least (t ∷ []) (Name n)
+  is_integer : {opens least : ℕ} {ts : List Token} {n : ℤ} → IsInteger ts n → IsExpr opens least ts (Int n)
+  is_text : {opens least : ℕ} {t : List ℕ} → IsExpr opens least (token.Text t ∷ []) (Text t)
+  is_truth : {opens least : ℕ} {b : Bool} → IsExpr opens least (token.Word (truth_word b) ∷ []) (Truth b)
+  is_null : {opens least : ℕ} {k : DataType} → IsExpr opens least (token.Word (codes "null") ∷ token.Word (kind_word k) ∷ []) (Null k)
+  is_call : {opens least : ℕ} {f : TextFn} {ts : List Token} {e : Expr} → IsExpr opens 1 ts e
+      → IsExpr (suc opens) least (token.Word (function_word f) ∷ token.Sign sign.Open ∷ ts ++ token.Sign sign.Close ∷ []) (Call f e)
+  is_len : {opens least : ℕ} → IsExpr (suc opens) least (token.Word (codes "len") ∷ token.Sign sign.Open ∷ token.Sign sign.Close ∷ []) Len
+  is_enclosed : {opens least : ℕ} {ts : List Token} {e : Expr} → IsExpr opens 1 ts e → IsExpr (suc opens) least (token.Sign sign.Open ∷ ts ++ token.Sign sign.Close ∷ []) e
+  is_operation : {opens least : ℕ} {o : Operator} {ls rs : List Token} {l r : Expr} → least ≤ binding o → IsExpr opens (left_binding o) ls l → IsExpr opens (suc (binding o)) rs r
+      → IsExpr opens least (ls ++ operator_token o ∷ rs) (Binary o l r)
+
+-- a whole expression: any operator may stand outside of parentheses, and these nest at most 100 deep
+abbrev pub IsWhole : List Token → Expr → Type 0
+IsWhole ts e = IsExpr 100 1 ts e
 
 -- one or more of what P reads, with commas between
 abbrev pub Listed : {X : Type 0} → (List Token → X → Type 0) → List Token → List X → Type 0
@@ -129,13 +133,13 @@ Listed P ts (x ∷ y ∷ xs) = (first rest : List Token) × (ts ≡ first ++ tok
 
 -- a name, `=` and an expression
 abbrev pub IsItem : List Token → Item → Type 0
-IsItem ts item = (t : Token) × (rest : List Token) × (ts ≡ t ∷ token.Sign sign.Is ∷ rest) × IsName t item.name × IsExpr 1 rest item.expr
+IsItem ts item = (t : Token) × (rest : List Token) × (ts ≡ t ∷ token.Sign sign.Is ∷ rest) × IsName t item.name × IsWhole rest item.expr
 
 -- an expression, then `desc` or nothing
 abbrev pub IsKey : List Token → Key → Type 0
 IsKey ts key =
-    ((key.desc ≡ false) × IsExpr 1 ts key.expr)
-    ⊎ ((key.desc ≡ true) × (rest : List Token) × (ts ≡ rest ++ token.Word (codes "desc") ∷ []) × IsExpr 1 rest key.expr)
+    ((key.desc ≡ false) × IsWhole ts key.expr)
+    ⊎ ((key.desc ≡ true) × (rest : List Token) × (ts ≡ rest ++ token.Word (codes "desc") ∷ []) × IsWhole rest key.expr)
 
 -- one token that is a name
 abbrev pub IsColumn : List Token → List ℕ → Type 0
@@ -147,7 +151,7 @@ IsOn how.Cross ts on = (ts ≡ []) × (on ≡ [])
 IsOn _ ts on = (rest : List Token) × (ts ≡ token.Word (codes "on") ∷ rest) × Listed IsColumn rest on
 
 abbrev pub IsStage : List Token → Stage → Type 0
-IsStage ts (Filter predicate) = (rest : List Token) × (ts ≡ token.Word (codes "filter") ∷ rest) × IsExpr 1 rest predicate
+IsStage ts (Filter predicate) = (rest : List Token) × (ts ≡ token.Word (codes "filter") ∷ rest) × IsWhole rest predicate
 IsStage ts (Select items) = (rest : List Token) × (ts ≡ token.Word (codes "select") ∷ rest) × Listed IsItem rest items
 IsStage ts (With items) = (rest : List Token) × (ts ≡ token.Word (codes "with") ∷ rest) × Listed IsItem rest items
 IsStage ts (Group keys aggs) =
@@ -169,21 +173,9 @@ AreStages ts (stage ∷ stages) = (first rest : List Token) × (ts ≡ token.Sig
 abbrev pub IsQuery : List Token → Query → Type 0
 IsQuery ts query = (t : Token) × (rest : List Token) × (ts ≡ token.Word (codes "from") ∷ t ∷ rest) × IsName t query.source × AreStages rest query.stages
 
--- how many parentheses are open behind a token, where so many are open before it
-abbrev pub open_behind : Token → ℕ → ℕ
-open_behind (token.Sign sign.Open) opened = suc opened
-open_behind (token.Sign sign.Close) opened = opened - 1
-open_behind _ opened = opened
-
--- how many parentheses are open at most, where so many are open at the start
-abbrev pub nesting : ℕ → List Token → ℕ
-nesting opened [] = opened
-nesting opened (t ∷ ts) = max opened (nesting (open_behind t opened) ts)
-
--- the text reads as the query: it is cut into tokens, and these are the query, in which parentheses nest at most 100 deep, and expressions at most 200
+-- the text reads as the query: it is cut into tokens, and these are the query, which is at most 200 deep
 pub record ReadsAs (text : List ℕ) (query : Query) : Type 0 where
   pub tokens : List Token
   pub cut : AreTokens tokens text
   pub is_query : IsQuery tokens query
-  pub nested : nesting 0 tokens ≤ 100
   pub not_deep : depth query ≤ 200

@@ -3,7 +3,7 @@ use Rattle.std.specs.Prelude.{ℕ, ℤ, suc, max, Bool, List, [], ◌∷◌}
 use Rattle.ps_frame.specs.declared.expr.Operator.{Operator}
 use Rattle.ps_frame.specs.declared.value.DataType.{DataType}
 use Rattle.ps_meaning.specs.declared.options.JoinType.{JoinType}
-use Rattle.ps_text.specs.declared.words.TextFn.{TextFn}
+use Rattle.text_queries.specs.declared.words.TextFn.{TextFn}
 
 -- an expression: the column of a name, a value, a null of a kind, a function of an expression, the number of rows, or an operator with its two operands
 pub data Expr : Type 0 where

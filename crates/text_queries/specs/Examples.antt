@@ -1,8 +1,7 @@
 -- Worked examples: small texts, their tokens and their queries.
-use Rattle.std.specs.Prelude.{ℕ, pos, List, [], ◌∷◌, codes, true, false}
+use Rattle.std.specs.Prelude.{pos, [], ◌∷◌, codes, true}
 use Rattle.ps_frame.specs.declared.expr.Operator.TheVariants as op
-use Rattle.ps_text.specs.Queries.{Expr, Name, Int, Binary, Len, Query, Select, Sort, Filter}
-use Rattle.text_tokens.specs.declared.token.Sign.TheVariants as sign
+use Rattle.text_queries.specs.Queries.{Expr, Name, Int, Binary, Len, Query, Select, Sort, Filter}
 use Rattle.text_tokens.specs.declared.token.Token.{Token}
 use Rattle.text_tokens.specs.declared.token.Token.TheVariants as token
 

@@ -4,8 +4,8 @@ use Rattle.std.specs.Fmt.{decimal}
 use Rattle.std.specs.List.{list_all}
 use Rattle.ps_meaning.specs.declared.options.JoinType.{JoinType}
 use Rattle.ps_meaning.specs.declared.options.JoinType.TheVariants as how
-use Rattle.ps_text.specs.Grammar.{is_reserved, function_word, kind_word, how_word, truth_word, operator_token}
-use Rattle.ps_text.specs.Queries.{Expr, Name, Int, Text, Truth, Null, Call, Len, Binary, Item, Key, Stage, Filter, Select, With, Group, Sort, Slice, Distinct, Join, Query}
+use Rattle.text_queries.specs.Grammar.{is_reserved, function_word, kind_word, how_word, truth_word, operator_token}
+use Rattle.text_queries.specs.Queries.{Expr, Name, Int, Text, Truth, Null, Call, Len, Binary, Item, Key, Stage, Filter, Select, With, Group, Sort, Slice, Distinct, Join, Query}
 use Rattle.text_tokens.specs.Runs.{begins, is_letter, is_word_byte}
 use Rattle.text_tokens.specs.Tokens.{spaced}
 use Rattle.text_tokens.specs.declared.token.Sign.TheVariants as sign
@@ -28,7 +28,7 @@ abbrev pub is_binary : Expr → Bool
 is_binary (Binary operator left right) = true
 is_binary _ = false
 
--- an operand that is an operator's tree stands in parentheses, and the argument of a call in those of the call alone
+-- the argument of a call stands in the parentheses of the call alone, and an operand that is an operator's tree in its own
 abbrev pub expr_tokens : Expr → List Token
 expr_tokens (Name n) = name_token n ∷ []
 expr_tokens (Int n) = integer_tokens n
@@ -40,6 +40,10 @@ expr_tokens Len = token.Word (codes "len") ∷ in_parentheses []
 expr_tokens (Binary operator left right) =
     (if is_binary left then in_parentheses (expr_tokens left) else expr_tokens left)
     ++ operator_token operator ∷ (if is_binary right then in_parentheses (expr_tokens right) else expr_tokens right)
+
+-- an expression as an operand
+abbrev pub operand_tokens : Expr → List Token
+operand_tokens e = if is_binary e then in_parentheses (expr_tokens e) else expr_tokens e
 
 -- with a comma before each but the first
 abbrev pub with_commas : {X : Type 0} → (X → List Token) → List X → List Token
