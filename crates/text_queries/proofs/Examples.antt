@@ -30,7 +30,7 @@ from_the_left =
     (is_name {t = c} (refl, refl))
 
 above : IsWhole (a ∷ token.Sign sign.Above ∷ token.Digits (codes "1") ∷ []) (Binary op.Gt col_a (Int (pos 1)))
-above = is_operation {o = op.Gt} {ls = a ∷ []} {rs = token.Digits (codes "1") ∷ []} (omega arith) (is_name {t = a} (refl, refl)) (is_integer {ts = token.Digits (codes "1") ∷ []} (refl, omega arith))
+above = is_operation {o = op.Gt} {ls = a ∷ []} {rs = token.Digits (codes "1") ∷ []} (omega arith) (is_name {t = a} (refl, refl)) (is_integer {ts = token.Digits (codes "1") ∷ []} ((refl, refl), refl, omega arith))
 
 abbrev tokens : List Token
 tokens = token.Word (codes "from") ∷ token.Word (codes "t") ∷ token.Sign sign.Bar ∷ token.Word (codes "filter") ∷ a ∷ token.Sign sign.Above ∷ token.Digits (codes "1") ∷ []

@@ -12,7 +12,7 @@ use Rattle.ps_meaning.specs.declared.options.JoinType.TheVariants as how
 use Rattle.text_queries.specs.Queries.{Expr, Name, Int, Text, Truth, Null, Call, Len, Binary, Item, Key, Stage, Filter, Select, With, Group, Sort, Slice, Distinct, Join, Query, depth}
 use Rattle.text_queries.specs.declared.words.TextFn.{TextFn}
 use Rattle.text_queries.specs.declared.words.TextFn.TheVariants as fun
-use Rattle.text_tokens.specs.Tokens.{AreTokens}
+use Rattle.text_tokens.specs.Tokens.{AreTokens, IsToken}
 use Rattle.text_tokens.specs.declared.token.Sign.TheVariants as sign
 use Rattle.text_tokens.specs.declared.token.Token.{Token}
 use Rattle.text_tokens.specs.declared.token.Token.TheVariants as token
@@ -103,8 +103,8 @@ number digits = digits_value 10 digits
 
 -- digits, or `-` and digits, in the range of 64 bits with a sign
 abbrev pub IsInteger : List Token → ℤ → Type 0
-IsInteger (token.Digits digits ∷ []) n = (n ≡ pos (number digits)) × (number digits < 2 ^ 63)
-IsInteger (token.Sign sign.Minus ∷ token.Digits digits ∷ []) n = (n ≡ neg_ℤ (pos (number digits))) × (number digits ≤ 2 ^ 63)
+IsInteger (token.Digits digits ∷ []) n = IsToken (token.Digits digits) × (n ≡ pos (number digits)) × (number digits < 2 ^ 63)
+IsInteger (token.Sign sign.Minus ∷ token.Digits digits ∷ []) n = IsToken (token.Digits digits) × (n ≡ neg_ℤ (pos (number digits))) × (number digits ≤ 2 ^ 63)
 IsInteger _ n = ⊥
 
 -- The tokens are the expression; parentheses, those of calls included, nest at most `opens` deep in them, and operators outside of parentheses bind at least as tightly as `least` says.
@@ -159,7 +159,7 @@ IsStage ts (Group keys aggs) =
 IsStage ts (Sort keys) = (rest : List Token) × (ts ≡ token.Word (codes "sort") ∷ rest) × Listed IsKey rest keys
 IsStage ts (Slice offset length) =
     (from : List Token) × (digits : List ℕ) × (ts ≡ token.Word (codes "slice") ∷ from ++ token.Digits digits ∷ [])
-    × IsInteger from offset × (length ≡ number digits) × (number digits < 2 ^ 64)
+    × IsInteger from offset × IsToken (token.Digits digits) × (length ≡ number digits) × (number digits < 2 ^ 64)
 IsStage ts Distinct = ts ≡ token.Word (codes "distinct") ∷ []
 IsStage ts (Join kept table on) =
     (t : Token) × (rest : List Token) × (ts ≡ token.Word (codes "join") ∷ token.Word (how_word kept) ∷ t ∷ rest) × IsName t table × IsOn kept rest on
