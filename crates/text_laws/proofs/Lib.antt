@@ -1,0 +1,5 @@
+-- Lemmas of the crate.
+pub mod WrittenNumbers
+pub mod WrittenTokens
+pub mod ReadExpressions
+pub mod ReadStages
