@@ -3,3 +3,8 @@ pub mod WrittenNumbers
 pub mod WrittenTokens
 pub mod ReadExpressions
 pub mod ReadStages
+pub mod Parentheses
+pub mod Operators
+pub mod OneExpression
+pub mod Separators
+pub mod OneQuery
