@@ -1,0 +1,5 @@
+mod Even
+mod EvenEval
+mod EvenSteps
+mod EvenPlans
+mod QuerySteps

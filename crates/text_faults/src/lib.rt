@@ -1,0 +1,4 @@
+//! What can break the plan of a query.
+#![tactic(auto)]
+
+pub mod laws;

@@ -1,0 +1,6 @@
+mod Entered
+mod Lists
+mod Planned
+mod Wholes
+mod Places
+mod Stages

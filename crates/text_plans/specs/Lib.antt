@@ -1,0 +1,4 @@
+pub mod QueryPlans
+pub mod Examples
+pub mod Arenas
+pub mod FoundTables
