@@ -25,7 +25,7 @@ use std::alloc::Global;
 use std::sync::Wait;
 use std::thread::Threads;
 use text_plans::query_plan;
-use text_reading::queries::read_query;
+use text_reading::read_query;
 use text_tokens::error::TextError;
 
 /// What a document is to hold.
