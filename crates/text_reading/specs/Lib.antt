@@ -1,0 +1,2 @@
+-- Definitions that the contracts of src/ cite.
+pub mod Reading
