@@ -136,6 +136,12 @@ def aggregates_of_sums(groups, columns):
     return plan([columns_of_groups(groups, columns)], exprs, [['scan', 0, None], ['group_by', 0, [['key', 0]], named, True, [0, 5]]])
 
 
+def aggregates_of_heights(count):
+    """So many rows of one group, and as many aggregates, each of an expression that reads no column."""
+    exprs = [['col', 'key'], ['len'], ['cast', 1, 'int', True]]
+    return plan([[['key', 'int', [1] * count]]], exprs, [['scan', 0, None], ['group_by', 0, [['key', 0]], [['a%d' % i, 2] for i in range(count)], True, None]])
+
+
 # Shared expressions, and deep ones.
 
 def doublings(rows, times):
@@ -168,6 +174,7 @@ CASES = {
     'full join, rows in the middle': (lambda n: equal_keys('full', n, [n * n // 2, 5]), 60_000),
     'aggregates of columns': (lambda n: aggregates(1_000, n), 200),
     'aggregates of sums': (lambda n: aggregates_of_sums(1_000, n), 200),
+    'aggregates of heights': (aggregates_of_heights, 20_000),
     'fourteen doublings': (lambda n: doublings(n, 14), 20_000),
     'deep sums': (lambda n: deep(lambda e: ['add', e, 0], n), 253, 256),
     'deep choices': (lambda n: deep(lambda e: ['ternary', 1, e, 0], n), 253, 256),

@@ -61,6 +61,24 @@ fn more_than_4096_keys_are_joined(rt: HostRuntime) -> Result<(), Fail> {
     Ok(())
 }
 
+// Columns of few values and of many, beside each other in a join, and in a join of it.
+const MANY_ROWS: &str = r#"
+tables [["k","int",[{0..2000:#}]],["a","str",[{0..500:"x","y","z","w"}]]] and [["k","int",[{1000..3000:#}]],["c","str",[{0..1000:"p","q"}]],["d","int",[{0..2000:#}]]]
+exprs ["col","k"]
+["join",0,1,"inner",[0],[0],null,false,"m:m",null] then ["join",2,1,"inner",[0],[0],"_2",false,"m:m",[-1,1]] -> k,a,c,d,c_2,d_2/1999,w,q,999,q,999
+["join",0,1,"left",[0],[0],null,false,"m:m",[999,2]] -> k,a,c,d/999,w,,/1000,x,p,0
+["join",0,1,"right",[0],[0],null,false,"m:m",[999,2]] -> a,k,c,d/w,1999,q,999/,2000,p,1000
+["join",0,1,"full",[0],[0],null,false,"m:m",[1999,2]] -> k,a,k_right,c,d/1999,w,1999,q,999/,,2000,p,1000
+["join",0,1,"semi",[0],[0],null,false,"m:m",[-1,1]] -> k,a/1999,w
+["join",0,1,"cross",[],[],null,false,"m:m",[2000,1]] -> k,a,k_right,c,d/1,y,1000,p,0
+"#;
+
+#[test]
+fn joins_of_few_and_of_many_values(rt: HostRuntime) -> Result<(), Fail> {
+    assert_eq!(rt; flaws(rt.alloc(), MANY_ROWS)?.as_str(), "");
+    Ok(())
+}
+
 const SLICED_JOINS: &str = r#"
 tables [["k","int",[{0..4200:#},{0..4200:#}]],["v","int",[{0..8400:#}]]]
 exprs ["col","k"]

@@ -1,11 +1,11 @@
 mod FirstWords
-mod Lists
-mod Told
+pub mod Lists
+pub mod Told
 mod ToldExpr
 mod ToldNode
 mod FrameColumns
 mod CellColumns
-mod ToldTable
+pub mod ToldTable
 mod NineItems
 mod Members
 mod NoPlan

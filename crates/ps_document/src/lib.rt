@@ -1,15 +1,16 @@
 // Documents of tables and a plan: their JSON, and the arenas that they hold.
 #![tactic(auto)]
 
-mod cells;
+pub mod cells;
 pub mod document;
 mod exprs;
 pub mod found;
 pub mod laws;
 mod nodes;
+pub mod objects;
 mod options;
-mod parts;
+pub mod parts;
 mod tables;
-mod taking;
+pub mod taking;
 mod values;
 mod words;

@@ -1,13 +1,13 @@
 -- What holds along the way from a table and the columns of its keys to the rows of its groups.
-use Rattle.std.proofs.Common.{◌≡◌, ℕ, zero, suc, ◌+◌, ◌-◌, ◌<◌, ◌≤◌, List, [], ◌∷◌, ◌++◌, length, get_or, map, take, drop, refl, sym, ap, subst, ◌∙◌, arith, inl, inr, length-append}
+use Rattle.std.proofs.Common.{◌≡◌, ℕ, ◌+◌, ◌-◌, ◌<◌, ◌≤◌, List, [], ◌∷◌, ◌++◌, length, map, take, drop, refl, sym, ap, subst, ◌∙◌, arith, inl, inr, length-append}
 use Rattle.std.specs.Prelude.{Some}
-use Rattle.std.specs.List.{All, AllByRecursion, AllZip}
-use Rattle.std.proofs.Math.Seq.{drop-append_seam}
+use Rattle.std.specs.List.{All, AllByRecursion, AllZip, take-map}
+use Rattle.std.proofs.Math.Seq.{drop-append_seam, take-append_seam}
 use Rattle.std.proofs.lemmas.List.{drop-map, length-map, map-append}
 use Rattle.std.proofs.lemmas.Grind.{get_or_default_zero}
 use Rattle.ps_frame.proofs.Rows.{length-rows_of}
 use Rattle.ps_frame.specs.Aggregates.{max_rows}
-use Rattle.ps_frame.specs.Frames.{AllOfHeight, HasKinds, IsFrame, all_beside, column_values, kinds_of}
+use Rattle.ps_frame.specs.Frames.{HasKinds, IsFrame, all_beside, column_values, kinds_of}
 use Rattle.ps_frame.specs.Gathered.{gathered}
 use Rattle.ps_frame.specs.Tables.{Fields, Frame, rows_of}
 use Rattle.ps_frame.specs.Trees.{Tree}
@@ -87,6 +87,23 @@ module _ (t : Frame) (own : List Series) (trees : List Tree) (schema : Fields) (
   pub aggregates-count : length trees ≤ length schema
   aggregates-count = let e = long in omega arith
 
+  pub keys-count : length own ≤ length schema
+  keys-count = let e = long in omega arith
+
+  -- the keys' fields are the first ones
+  pub key-frame : h ≤ max_rows → IsFrame (take (length own) schema) own h
+  key-frame small = record {
+    kinds = some-same (map (λ (c : Series). c.kind) own) (kinds_of (take (length own) schema))
+        (map-map Some (λ (c : Series). c.kind) own
+        ∙ sym (take-append_seam (map (λ (c : Series). Some c.kind) own) (map (kind_over t.schema) trees))
+        ∙ ap (λ m. take m (map (λ (c : Series). Some c.kind) own ++ map (kind_over t.schema) trees)) (length-map own (λ (c : Series). Some c.kind))
+        ∙ ap (take (length own)) can.kinds
+        ∙ take-map Some (length own) (kinds_of schema)
+        ∙ ap (map Some) (take-map (λ (g : List ℕ × DataType). g.1) (length own) schema));
+    heights = can.heights;
+    small = small;
+  }
+
   last : last_fields (length trees) schema ≡ drop (length own) schema
   last = let e = long in let f : length schema - length trees ≡ length own = omega arith in ap (λ m. drop m schema) f
 
@@ -116,18 +133,12 @@ module _ (t : Frame) (own : List Series) (trees : List Tree) (schema : Fields) (
     pub keys-long : length n.keys.items ≡ h
     keys-long = keys-length key_rows n of ∙ height
 
-    pub firsts-there : All (λ (c : Series). All (λ i. i < length c.values) n.firsts.items) own
-    firsts-there j d within k e inside =
-        let tall : length (get_or own j d).values ≡ h = all-here own can.heights j d within in
+    pub firsts-inside : All (λ i. i < h) n.firsts.items
+    firsts-inside k e inside =
         let first = firsts-below key_rows n of k inside in
         let any = get_or_default_zero n.firsts.items k e inside in
-        let e = height in
+        let tall = height in
         omega arith
-      where
-        all-here : (cs : List Series) → AllOfHeight h cs → (j : ℕ) (d : Series) → j < length cs → length (get_or cs j d).values ≡ h
-        all-here [] a j d within = absurd (omega arith)
-        all-here (c ∷ cs) a zero d within = a.0
-        all-here (c ∷ cs) a (suc j) d within = all-here cs a.1 j d (omega arith)
 
     pub few : h ≤ max_rows → count ≤ max_rows
     few small = let a = firsts-few key_rows n of in let b = height in omega arith

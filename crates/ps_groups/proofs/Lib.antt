@@ -5,7 +5,9 @@ pub mod Parts
 pub mod Told
 pub mod Values
 pub mod KeyValues
+pub mod KeyColumns
 pub mod Reducing
+pub mod ReadTables
 pub mod KeyTables
 pub mod GroupRows
 pub mod GroupGives

@@ -4,11 +4,11 @@ use Rattle.std.specs.Prelude.{slice_get, Some}
 use Rattle.std.specs.List.{concat, take-map}
 use Rattle.std.proofs.Math.Seq.{drop-append-add, take-append_seam}
 use Rattle.std.proofs.lemmas.List.{length-map, drop-map}
-use Rattle.std.proofs.lemmas.Option.{get_or_from_slice_get, slice_get-get_or}
+use Rattle.std.proofs.lemmas.Option.{get_or_from_slice_get}
 use Rattle.ps_frame.specs.Gathered.{rows_at}
 use Rattle.ps_frame.specs.Tables.{Frame}
 use Rattle.ps_frame.specs.Zip.{below}
-use Rattle.ps_keys.proofs.FirstRows.{at-below, length-below}
+use Rattle.ps_keys.proofs.FirstRows.{length-below}
 use Rattle.ps_keys.proofs.KeptRows.{map-places}
 use Rattle.ps_groups.specs.GroupTables.{part_in, parts_in, table_at}
 
@@ -37,13 +37,9 @@ parts-gathered t f groups schema rows = map-places (table_at t) groups [] (part_
     ∙ ap (λ ps. rows_at ps t.rows) (part-of-joined groups k within) in
     λ i. record { schema = schema i; rows = cut i })
 
--- the table of a group
-pub part-found : (f p : Frame) (groups : List (List ℕ)) (k start : ℕ) (rows : List ℕ) → k < length groups → slice_get groups k ≡ Some rows → start ≡ length (concat (take k groups))
-    → p ≡ record { schema = f.schema; rows = take (length rows) (drop start f.rows) } → slice_get (parts_in f groups) k ≡ Some p
-part-found f p groups k start rows within found begins is =
-    let here : get_or groups k [] ≡ rows = get_or_from_slice_get groups k rows [] found in
-    slice_get-get_or (parts_in f groups) k f (omega (arith, length-parts_in f groups))
-    ∙ ap Some (at-below (part_in f groups) (length groups) k f within
-    ∙ ap (λ ps. record { schema = f.schema; rows = take (length ps) (drop (length (concat (take k groups))) f.rows) }) here
-    ∙ ap (λ s. record { schema = f.schema; rows = take (length rows) (drop s f.rows) }) (sym begins)
-    ∙ sym is)
+-- the part of a group
+pub part-is : (f p : Frame) (groups : List (List ℕ)) (k start : ℕ) (rows : List ℕ) → slice_get groups k ≡ Some rows → start ≡ length (concat (take k groups))
+    → p ≡ record { schema = f.schema; rows = take (length rows) (drop start f.rows) } → p ≡ part_in f groups k
+part-is f p groups k start rows found begins is =
+    let here : rows ≡ get_or groups k [] = sym (get_or_from_slice_get groups k rows [] found) in
+    is ∙ (λ j. record { schema = f.schema; rows = take (length (here j)) (drop (begins j) f.rows) })

@@ -26,3 +26,8 @@ group_tables f n = map (table_at f) (places_of_each (length n.firsts.items) n.ke
 pub record IsNumberingOf (f : Frame) (n : Numbering) : Type 0 where
   pub below : AreBelow (length n.firsts.items) n.keys.items
   pub long : length n.keys.items ≡ length f.rows
+
+-- a table with the rows of each group one after another
+pub record IsByGroup (f : Frame) (groups : List (List ℕ)) (g : Frame) : Type 0 where
+  pub schema : g.schema ≡ f.schema
+  pub rows : g.rows ≡ rows_at (concat groups) f.rows

@@ -1,10 +1,11 @@
 // The columns of aggregates: a value for each group.
 ghost use Rattle.std.specs.Prelude.{◌≡◌, ◌<◌, ◌≤◌, ℕ, Err, IfErr, IfOk, IfSome, IsSome, IsTrue, OnErr, OnOk, Some, get_or, length, map};
-ghost use Rattle.std.specs.List.{All, AllByRecursion, AllZip};
+ghost use Rattle.std.specs.List.{AllByRecursion, AllZip};
 ghost use Rattle.ps_expr_eval.specs.Held.{values_of};
 ghost use Rattle.ps_frame.specs.Frames.{HasKinds, kinds_of};
 ghost use Rattle.ps_frame.specs.Lawful.{FitsFrame};
-ghost use Rattle.ps_frame.specs.Tables.{Frame};
+ghost use Rattle.ps_frame.specs.Eval.{eval};
+ghost use Rattle.ps_frame.specs.Tables.{whole};
 ghost use Rattle.ps_frame.specs.Trees.{IsComplete, IsExpression, tree_at};
 ghost use Rattle.ps_frame.specs.Series.{all_fit};
 ghost use Rattle.ps_frame.specs.Typing.{kind_over};
@@ -12,12 +13,14 @@ ghost use Rattle.ps_frame.specs.declared.value.Value.TheVariants as val;
 ghost use Rattle.ps_groups.specs.Errors.{IsErrorAt};
 ghost use Rattle.ps_groups.specs.Grouped.{GivesFirst, IsAggregate, IsFaultOfAny, IsFaultOver, IsValueOf, last_fields};
 ghost use Rattle.ps_groups.specs.Reductions.{ReadsWithin, reduced_values};
-ghost use Rattle.ps_groups.specs.GroupTables.{IsNumberingOf, group_tables};
+ghost use Rattle.ps_groups.specs.GroupTables.{IsByGroup, IsNumberingOf, group_tables, part_in, parts_in};
 ghost use Rattle.ps_keys.specs.KeyRows.{places_of_each};
+ghost use Rattle.ps_meaning.specs.Groups.{only_value};
 ghost use Rattle.ps_meaning.specs.Steps.{key_trees};
 
 use crate::reductions::{Reduction, reduced, reduction_of};
-use crate::tables::{GroupTables, tables_by_key};
+use crate::tables::{table_by_group, table_of_group};
+use expression_reads::read_columns::read_columns;
 use ps_expr_eval::computed::{ComputedColumn, Values, copy_of};
 use ps_expr_eval::evaluate::part_of;
 use ps_frame::column::Column;
@@ -26,7 +29,7 @@ use ps_frame::frame::DataFrame;
 use ps_frame::refusal::{PolarsError, PolarsResult};
 use ps_frame::schema::Schema;
 use ps_frame::value::{DataFault, DataType, Value};
-use ps_keys::key_rows::RowsByKey;
+use ps_keys::key_rows::{RowsByKey, rows_by_key};
 use ps_keys::numbering::Numbering;
 use ps_meaning::faults::fault_at;
 use ps_meaning::options::ExprIR;
@@ -60,7 +63,7 @@ pub(crate) fn aggregate_columns(
     table_fits(df);
     let from = schema.len() - aggs.len();
     let mut rows_of_keys = None;
-    let mut tables = None;
+    let mut by_group = None;
     let mut columns = Vec::with_capacity(alloc, aggs.len())?;
     for (i, agg) in aggs.iter().enumerate() {
         let dtype = schema.kind(from + i);
@@ -73,7 +76,7 @@ pub(crate) fn aggregate_columns(
             df,
             numbering,
             &mut rows_of_keys,
-            &mut tables,
+            &mut by_group,
             dtype,
         ) {
             Ok(column) => columns.push(column)?,
@@ -83,7 +86,7 @@ pub(crate) fn aggregate_columns(
     Ok(columns)
 }
 
-// The column of an aggregate over groups. Their rows are put together, and their tables made, once one is needed.
+// The column of an aggregate over groups. Their rows are put together, and then a table of them, once that is needed.
 fn aggregate_column(
     alloc: Global,
     at: Node,
@@ -92,7 +95,7 @@ fn aggregate_column(
     df: &DataFrame,
     numbering: &Numbering,
     rows_of_keys: &mut Option<RowsByKey>,
-    tables: &mut Option<GroupTables>,
+    by_group: &mut Option<DataFrame>,
     dtype: DataType,
 ) -> PolarsResult<Column>
     requires expression { IsExpression arena.now.items expr }
@@ -100,21 +103,28 @@ fn aggregate_column(
     requires fit { FitsFrame df.now }
     requires groups { IsNumberingOf df.now numbering.now }
     requires together { IfSome rows_of_keys.old (λ rows. rows ≡ places_of_each (length numbering.now.firsts.items) numbering.now.keys.items) }
-    requires made { IfSome tables.old (λ made. made ≡ group_tables df.now numbering.now) }
+    requires apart { IfSome by_group.old (IsByGroup df.now (places_of_each (length numbering.now.firsts.items) numbering.now.keys.items)) }
     ensures kind { IfOk result (λ c. c.kind ≡ dtype) }
     ensures column { IfOk result (IsAggregate at.0 (group_tables df.now numbering.now) (tree_at arena.now.items expr)) }
     ensures error { IfErr result (IsErrorAt at.0 (IsFaultOver at.0 (group_tables df.now numbering.now) (tree_at arena.now.items expr))) }
     ensures together { OnOk result (IfSome rows_of_keys.new (λ rows. rows ≡ places_of_each (length numbering.now.firsts.items) numbering.now.keys.items)) }
-    ensures made { OnOk result (IfSome tables.new (λ made. made ≡ group_tables df.now numbering.now)) }
+    ensures apart { OnOk result (IfSome by_group.new (IsByGroup df.now (places_of_each (length numbering.now.firsts.items) numbering.now.keys.items))) }
 {
     // Read for its clause alone: there are few enough rows that a count of them is a value.
     let _height = df.height();
     match reduction_of(expr, arena, df.schema()) {
         Some(reduction) => reduced_column(alloc, reduction, df, numbering, rows_of_keys, dtype),
-        None => {
-            let tables = tables.get_or_try_insert_with(|| tables_by_key(alloc, df, numbering))?;
-            evaluated_column(alloc, at, expr, arena, tables, dtype)
-        }
+        None => other_column(
+            alloc,
+            at,
+            expr,
+            arena,
+            df,
+            numbering,
+            rows_of_keys,
+            by_group,
+            dtype,
+        ),
     }
 }
 
@@ -141,25 +151,86 @@ fn reduced_column(
     column_of_values(alloc, dtype, values)
 }
 
-// The column of an aggregate: its value over the table of each group.
+// The column of an aggregate that is no reduction.
+fn other_column(
+    alloc: Global,
+    at: Node,
+    expr: Node,
+    arena: &Arena<AExpr>,
+    df: &DataFrame,
+    numbering: &Numbering,
+    rows_of_keys: &mut Option<RowsByKey>,
+    by_group: &mut Option<DataFrame>,
+    dtype: DataType,
+) -> PolarsResult<Column>
+    requires expression { IsExpression arena.now.items expr }
+    requires kind { kind_over df.now.schema (tree_at arena.now.items expr) ≡ Some dtype }
+    requires fit { FitsFrame df.now }
+    requires groups { IsNumberingOf df.now numbering.now }
+    requires together { IfSome rows_of_keys.old (λ rows. rows ≡ places_of_each (length numbering.now.firsts.items) numbering.now.keys.items) }
+    requires apart { IfSome by_group.old (IsByGroup df.now (places_of_each (length numbering.now.firsts.items) numbering.now.keys.items)) }
+    ensures kind { IfOk result (λ c. c.kind ≡ dtype) }
+    ensures column { IfOk result (IsAggregate at.0 (group_tables df.now numbering.now) (tree_at arena.now.items expr)) }
+    ensures error { IfErr result (IsErrorAt at.0 (IsFaultOver at.0 (group_tables df.now numbering.now) (tree_at arena.now.items expr))) }
+    ensures together { OnOk result (IfSome rows_of_keys.new (λ rows. rows ≡ places_of_each (length numbering.now.firsts.items) numbering.now.keys.items)) }
+    ensures apart { OnOk result (IfSome by_group.new (IsByGroup df.now (places_of_each (length numbering.now.firsts.items) numbering.now.keys.items))) }
+{
+    let keys = numbering.keys.as_slice();
+    let count = numbering.firsts.len();
+    let groups = rows_of_keys.get_or_try_insert_with(|| rows_by_key(alloc, keys, count))?;
+    grouped_column(
+        alloc, at, expr, arena, df, numbering, groups, by_group, dtype,
+    )
+}
+
+// The same, where the rows of each group are put together. Only the columns that the aggregate reads are cut by group.
+fn grouped_column(
+    alloc: Global,
+    at: Node,
+    expr: Node,
+    arena: &Arena<AExpr>,
+    df: &DataFrame,
+    numbering: &Numbering,
+    groups: &RowsByKey,
+    by_group: &mut Option<DataFrame>,
+    dtype: DataType,
+) -> PolarsResult<Column>
+    requires expression { IsExpression arena.now.items expr }
+    requires kind { kind_over df.now.schema (tree_at arena.now.items expr) ≡ Some dtype }
+    requires fit { FitsFrame df.now }
+    requires groups { IsNumberingOf df.now numbering.now }
+    requires together { groups.now ≡ places_of_each (length numbering.now.firsts.items) numbering.now.keys.items }
+    requires apart { IfSome by_group.old (IsByGroup df.now (places_of_each (length numbering.now.firsts.items) numbering.now.keys.items)) }
+    ensures kind { IfOk result (λ c. c.kind ≡ dtype) }
+    ensures column { IfOk result (IsAggregate at.0 (group_tables df.now numbering.now) (tree_at arena.now.items expr)) }
+    ensures error { IfErr result (IsErrorAt at.0 (IsFaultOver at.0 (group_tables df.now numbering.now) (tree_at arena.now.items expr))) }
+    ensures apart { OnOk result (IfSome by_group.new (IsByGroup df.now (places_of_each (length numbering.now.firsts.items) numbering.now.keys.items))) }
+{
+    let table = by_group.get_or_try_insert_with(|| table_by_group(alloc, df, numbering, groups))?;
+    let columns = read_columns(alloc, expr, arena, table)?;
+    evaluated_column(alloc, at, expr, arena, &columns, groups, dtype)
+}
+
+// The column of an aggregate: its value over each group's part of a table.
 fn evaluated_column(
     alloc: Global,
     at: Node,
     expr: Node,
     arena: &Arena<AExpr>,
-    tables: &GroupTables,
+    table: &DataFrame,
+    groups: &RowsByKey,
     dtype: DataType,
 ) -> PolarsResult<Column>
     requires expression { IsExpression arena.now.items expr }
-    requires kinds { All (λ f. kind_over f.schema (tree_at arena.now.items expr) ≡ Some dtype) tables.now }
-    requires fit { All FitsFrame tables.now }
+    requires kind { IsSome (kind_over table.now.schema (tree_at arena.now.items expr)) }
+    requires fit { IsTrue (all_fit dtype (map (λ f. only_value (eval at.0 (whole f) (tree_at arena.now.items expr))) (parts_in table.now groups.now))) }
     ensures kind { IfOk result (λ c. c.kind ≡ dtype) }
-    ensures column { IfOk result (IsAggregate at.0 tables.now (tree_at arena.now.items expr)) }
-    ensures error { IfErr result (IsErrorAt at.0 (IsFaultOver at.0 tables.now (tree_at arena.now.items expr))) }
+    ensures column { IfOk result (IsAggregate at.0 (parts_in table.now groups.now) (tree_at arena.now.items expr)) }
+    ensures error { IfErr result (IsErrorAt at.0 (IsFaultOver at.0 (parts_in table.now groups.now) (tree_at arena.now.items expr))) }
 {
-    let mut values = Vec::with_capacity(alloc, tables.len())?;
-    for group in 0..tables.len() {
-        match value_over(alloc, expr, arena, tables, group)? {
+    let mut values = Vec::with_capacity(alloc, groups.len())?;
+    for group in 0..groups.len() {
+        match value_over(alloc, expr, arena, table, groups, group)? {
             Ok(value) => values.push(value)?,
             Err(fault) => return Err(fault_at(at, fault)),
         }
@@ -167,21 +238,22 @@ fn evaluated_column(
     column_of_values(alloc, dtype, values)
 }
 
-// The value of an aggregate over the table of a group, or a fault.
+// The value of an aggregate over a group's part of a table, or a fault.
 fn value_over(
     alloc: Global,
     expr: Node,
     arena: &Arena<AExpr>,
-    tables: &GroupTables,
+    table: &DataFrame,
+    groups: &RowsByKey,
     group: usize,
 ) -> Result<Result<Value, DataFault>, AllocError>
     requires expression { IsExpression arena.now.items expr }
-    requires within { group < length tables.now }
-    requires kinds { All (λ f. IsSome (kind_over f.schema (tree_at arena.now.items expr))) tables.now }
-    ensures { IfOk result (λ outcome. (at : ℕ) (f : Frame) → IsValueOf at (get_or tables.now group f) (tree_at arena.now.items expr) outcome) }
+    requires within { group < length groups.now }
+    requires kind { IsSome (kind_over table.now.schema (tree_at arena.now.items expr)) }
+    ensures { IfOk result (λ outcome. (at : ℕ) → IsValueOf at (part_in table.now groups.now group) (tree_at arena.now.items expr) outcome) }
 {
-    let table = tables.table(alloc, group)?;
-    value_of(alloc, expr, arena, &table)
+    let part = table_of_group(alloc, table, groups, group)?;
+    value_of(alloc, expr, arena, &part)
 }
 
 // The value of an expression over a table, or a fault.

@@ -1,5 +1,5 @@
 // A table's groups by keys, and a row for each.
-ghost use Rattle.std.specs.Prelude.{◌≡◌, ◌<◌, ◌≤◌, ◌++◌, ◌∷◌, [], Bool, Err, IfErr, IfOk, OnErr, OnOk, Some, length, map};
+ghost use Rattle.std.specs.Prelude.{◌≡◌, ◌<◌, ◌≤◌, ◌++◌, ◌∷◌, [], Bool, Err, IfErr, IfOk, OnErr, OnOk, Some, length, map, take};
 ghost use Rattle.std.specs.List.{All, AllZip};
 ghost use Rattle.ps_frame.specs.Aggregates.{max_rows};
 ghost use Rattle.ps_frame.specs.Frames.{AllOfHeight, HasKinds, IsFrame, column_values};
@@ -7,7 +7,6 @@ ghost use Rattle.ps_frame.specs.Functions.{Functions};
 ghost use Rattle.ps_frame.specs.Gathered.{gathered};
 ghost use Rattle.ps_frame.specs.Tables.{rows_of};
 ghost use Rattle.ps_frame.specs.Trees.{tree_at};
-ghost use Rattle.ps_frame.specs.Series.{Series};
 ghost use Rattle.ps_groups.specs.Errors.{IsErrorAt};
 ghost use Rattle.ps_groups.specs.Grouped.{CanGroup, IsAggregate, IsFaultOfGroups, all_causes, key_frames, keyed_rows, last_fields, table_groups};
 ghost use Rattle.ps_keys.specs.Numbering.{Numbers};
@@ -17,6 +16,7 @@ ghost use Rattle.ps_meaning.specs.Steps.{group_step, key_trees, named_trees};
 ghost use Rattle.ps_zip.specs.Zips.{AreTypedOver};
 
 use crate::aggregates::aggregate_columns;
+use crate::key_columns::gathered_columns;
 use ps_frame::column::Column;
 use ps_frame::expr::AExpr;
 use ps_frame::frame::DataFrame;
@@ -83,7 +83,15 @@ fn groups_of(
     match values_of_groups(alloc, at, keyed, &numbering, aggs, arena, schema) {
         Ok(values) => {
             let keys = keyed.keys.as_slice();
-            rows_of_groups(alloc, keys, numbering.firsts.as_slice(), values, schema)
+            let height = keyed.table.height();
+            rows_of_groups(
+                alloc,
+                keys,
+                height,
+                numbering.firsts.as_slice(),
+                values,
+                schema,
+            )
         },
         Err(error) => Err(error),
     }
@@ -121,44 +129,22 @@ fn values_of_groups(
 fn rows_of_groups(
     alloc: Global,
     keys: &[Column],
+    height: usize,
     firsts: &[usize],
     values: Vec<Column>,
     schema: &Schema,
 ) -> PolarsResult<DataFrame>
-    requires there { All (λ (c : Series). All (λ i. i < length c.values) firsts.now) keys.now }
+    requires width { length keys.now ≤ length schema.now }
+    requires own { IsFrame (take (length keys.now) schema.now) keys.now height }
+    requires there { All (λ i. i < height) firsts.now }
+    requires few { length firsts.now ≤ max_rows }
     requires fields { IsFrame schema.now (map (gathered firsts.now) keys.now ++ values.items) (length firsts.now) }
     ensures schema { IfOk result (λ f. f.schema ≡ schema.now) }
     ensures rows { IfOk result (λ f. f.rows ≡ rows_of (length firsts.now) (column_values (map (gathered firsts.now) keys.now ++ values.items))) }
     ensures memory { OnErr result (result ≡ Err PolarsError.OutOfMemory) }
 {
-    let keys = gathered_all(alloc, keys, firsts)?;
+    let keys = gathered_columns(alloc, keys, schema, height, firsts)?;
     table_of(alloc, schema, keys, values, firsts.len())
-}
-
-// The values of columns at some rows.
-fn gathered_all(
-    alloc: Global,
-    columns: &[Column],
-    rows: &[usize],
-) -> Result<Vec<Column>, AllocError>
-    requires { All (λ (c : Series). All (λ i. i < length c.values) rows.now) columns.now }
-    ensures { IfOk result (λ out. out.items ≡ map (gathered rows.now) columns.now) }
-{
-    let mut out = Vec::with_capacity(alloc, columns.len())?;
-    for column in columns {
-        out.push(gathered_column(alloc, column, rows)?)?;
-    }
-    Ok(out)
-}
-
-fn gathered_column(alloc: Global, column: &Column, rows: &[usize]) -> Result<Column, AllocError>
-    requires { All (λ i. i < length column.now.values) rows.now }
-    ensures { IfOk result (λ c. c ≡ gathered rows.now column.now) }
-{
-    match column.gather(alloc, rows) {
-        Ok(column) => Ok(column),
-        Err(_) => Err(AllocError),
-    }
 }
 
 // The table of columns of a height, and then of others of it.

@@ -6,6 +6,7 @@ mod by_key;
 pub mod distinct;
 pub mod group_by;
 mod kept_rows;
+mod key_columns;
 mod reductions;
 mod statistics;
 mod tables;

@@ -4,8 +4,8 @@ use Rattle.std.specs.Prelude.{map, reverse, Result, Ok, Err, IfOk}
 use Rattle.std.proofs.lemmas.Bool.{ne_eqb}
 use Rattle.std.proofs.lemmas.List.{length-map, reverse-append, length-reverse}
 use Rattle.ps_frame.proofs.Rows.{length-rows_of}
-use Rattle.ps_frame.specs.Frames.{AllOfHeight, IsFrame, column_values, frame_of, height_of}
-use Rattle.ps_frame.specs.Tables.{Fields, Frame, beside, rows_of}
+use Rattle.ps_frame.specs.Frames.{AllOfHeight, IsFrame, column_values, frame_of}
+use Rattle.ps_frame.specs.Tables.{Frame, beside, rows_of}
 use Rattle.ps_frame.specs.Series.{Series}
 use Rattle.ps_frame.specs.declared.value.Value.{Value}
 use Rattle.tool_run.specs.ToolAnswers.{negated, negated_of, negated_value, reversed, reversed_of}

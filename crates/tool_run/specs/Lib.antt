@@ -2,6 +2,7 @@ pub mod Outside
 pub mod Memory
 pub mod Csv
 pub mod Answers
+pub mod Asked
 pub mod Outcomes
 pub mod Errors
 pub mod Runs

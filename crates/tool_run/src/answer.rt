@@ -1,8 +1,14 @@
 // The answer to a document.
-ghost use Rattle.std.specs.Prelude.{◌≡◌, IfErr, IfOk};
+ghost use Rattle.std.specs.Prelude.{◌≡◌, ℕ, Err, IfErr, IfOk, List, Some};
+ghost use Rattle.tool_words.specs.Words.{IsRun, IsText};
+ghost use Rattle.query_document.specs.QueryDocuments.{IsNaming, asked_of};
+ghost use Rattle.text_plans.specs.QueryPlans.{first_unknown, query_tables, table_named};
+ghost use Rattle.text_queries.specs.Grammar.{ReadsAs};
+ghost use Rattle.text_queries.specs.Queries.{Query};
 ghost use Rattle.ps_exec.specs.Queries.{IsQueryAnswer, IsQueryError};
 ghost use Rattle.ps_survey.specs.Flaws.{plan_of};
 ghost use Rattle.tool_run.specs.Answers.{HasPlan, IsPlanText, IsUnanswered};
+ghost use Rattle.tool_run.specs.Asked.{IsQueryPlan, IsWantedBy, Words};
 ghost use Rattle.tool_run.specs.Errors.{IsOutcomeOf};
 
 use crate::csv_text::csv_text;
@@ -14,12 +20,45 @@ use ps_frame::frame::DataFrame;
 use ps_frame::functions::Functions;
 use ps_frame::refusal::{Compute, PolarsError, PolarsResult};
 use ps_options::options::Options;
+use query_document::document::{QueryDocument, read_query_document};
 use std::alloc::Global;
 use std::sync::Wait;
 use std::thread::Threads;
+use text_plans::query_plan;
+use text_reading::read_query;
+use text_tokens::error::TextError;
+
+/// What a document is to hold.
+#[derive(Clone, Copy, Debug, PartialEq, Eq)]
+pub(crate) enum Wanted {
+    /// A plan, as `run` wants it.
+    Plan,
+    /// The text of a query, as `text` wants it.
+    Query,
+}
 
 /// The text that answers the document of these bytes, or how the run ends without one.
 pub(crate) fn answer<R: Threads + Wait + Sync, F: Functions, G: Gate>(
+    rt: &R,
+    alloc: Global,
+    bytes: Vec<u8>,
+    wanted: Wanted,
+    options: &Options,
+    serial: bool,
+    functions: &F,
+    gate: &G,
+) -> Result<Vec<u8>, Outcome>
+    ensures text { (words : Words) → IsWantedBy words wanted → IfOk result (λ text. HasPlan words bytes.items (λ plan. IsPlanText (F.told functions.now) plan text.items)) }
+    ensures outcome { (words : Words) → IsWantedBy words wanted → IfErr result (IsUnanswered (F.told functions.now) words bytes.items) }
+{
+    match wanted {
+        Wanted::Plan => answer_plan(rt, alloc, bytes, options, serial, functions, gate),
+        Wanted::Query => answer_query(rt, alloc, bytes, options, serial, functions, gate),
+    }
+}
+
+/// The text that answers the plan of the document of these bytes, or how the run ends without one.
+fn answer_plan<R: Threads + Wait + Sync, F: Functions, G: Gate>(
     rt: &R,
     alloc: Global,
     bytes: Vec<u8>,
@@ -28,8 +67,8 @@ pub(crate) fn answer<R: Threads + Wait + Sync, F: Functions, G: Gate>(
     functions: &F,
     gate: &G,
 ) -> Result<Vec<u8>, Outcome>
-    ensures text { IfOk result (λ text. HasPlan bytes.items (λ plan. IsPlanText (F.told functions.now) plan text.items)) }
-    ensures outcome { IfErr result (IsUnanswered (F.told functions.now) bytes.items) }
+    ensures text { (words : Words) → IsRun words → IfOk result (λ text. HasPlan words bytes.items (λ plan. IsPlanText (F.told functions.now) plan text.items)) }
+    ensures outcome { (words : Words) → IsRun words → IfErr result (IsUnanswered (F.told functions.now) words bytes.items) }
 {
     // By hand, since the contract says which outcome each error has.
     match read_document(alloc, bytes) {
@@ -38,6 +77,67 @@ pub(crate) fn answer<R: Threads + Wait + Sync, F: Functions, G: Gate>(
             Err(error) => Err(unanswered(alloc, &error)),
         },
         Err(error) => Err(unread(error)),
+    }
+}
+
+/// The text that answers the query of the document of these bytes, or how the run ends without one.
+fn answer_query<R: Threads + Wait + Sync, F: Functions, G: Gate>(
+    rt: &R,
+    alloc: Global,
+    bytes: Vec<u8>,
+    options: &Options,
+    serial: bool,
+    functions: &F,
+    gate: &G,
+) -> Result<Vec<u8>, Outcome>
+    ensures text { (words : Words) → IsText words → IfOk result (λ text. HasPlan words bytes.items (λ plan. IsPlanText (F.told functions.now) plan text.items)) }
+    ensures outcome { (words : Words) → IsText words → IfErr result (IsUnanswered (F.told functions.now) words bytes.items) }
+{
+    // By hand, since the contract says which outcome each error has.
+    match read_query_document(alloc, bytes) {
+        Ok(asked) => match planned(alloc, asked) {
+            Ok(document) => match text_of(rt, alloc, document, options, serial, functions, gate) {
+                Ok(text) => Ok(text),
+                Err(error) => Err(unanswered(alloc, &error)),
+            },
+            Err(error) => Err(unplanned(&error)),
+        },
+        Err(error) => Err(unread(error)),
+    }
+}
+
+/// The plan of a query over its tables.
+fn planned(alloc: Global, document: QueryDocument) -> Result<Document, TextError>
+    requires { IsNaming document.names document.tables.items }
+    ensures plan { IfOk result (λ d. IsQueryPlan (asked_of document) (plan_of d.root d.nodes.items d.exprs.items)) }
+    ensures reading { result ≡ Err TextError.NoReading → (query : Query) → ¬ ReadsAs document.query query }
+    ensures unknown { (name : List ℕ) → result ≡ Err (TextError.UnknownTable name) → (query : Query) × ReadsAs document.query query × (first_unknown (table_named document.names document.tables.items) (query_tables query) ≡ Some name) }
+{
+    let QueryDocument {
+        tables,
+        names,
+        query,
+    } = document;
+    // By hand: behind `?` the proof would lose which call gave the error.
+    let query = match read_query(alloc, query.as_str()) {
+        Ok(query) => query,
+        Err(error) => return Err(error),
+    };
+    match query_plan(alloc, &query, names.as_slice(), tables) {
+        Ok((root, nodes, exprs)) => Ok(Document { nodes, exprs, root }),
+        Err(error) => Err(error),
+    }
+}
+
+fn unplanned(error: &TextError) -> Outcome
+    ensures reading { error.now ≡ TextError.NoReading → result ≡ Outcome.BadQuery }
+    ensures table { (name : List ℕ) → error.now ≡ TextError.UnknownTable name → result ≡ Outcome.UnknownTable }
+    ensures memory { error.now ≡ TextError.OutOfMemory → result ≡ Outcome.OutOfMemory }
+{
+    match error {
+        TextError::NoReading => Outcome::BadQuery,
+        TextError::UnknownTable { .. } => Outcome::UnknownTable,
+        TextError::OutOfMemory => Outcome::OutOfMemory,
     }
 }
 

@@ -12,6 +12,10 @@ pub enum Outcome {
     BadJson,
     /// The bytes are a JSON text, and no document.
     BadDocument,
+    /// The bytes are a document of a query whose text reads as none.
+    BadQuery,
+    /// The bytes are a document of a query in which a name is no table's.
+    UnknownTable,
     /// The plan isn't valid: the line says why, and at which node.
     Refused(String),
     /// The plan ended with a fault: the line says with which, and at which node.
@@ -36,7 +40,8 @@ impl Outcome {
         match self {
             Outcome::Written => 0,
             Outcome::Usage => 2,
-            Outcome::BadJson | Outcome::BadDocument => 3,
+            Outcome::BadJson | Outcome::BadDocument | Outcome::BadQuery | Outcome::UnknownTable =>
+                3,
             Outcome::Refused(_) => 4,
             Outcome::Faulted(_) => 5,
             Outcome::ReadFault => 6,
@@ -55,6 +60,8 @@ impl Outcome {
             Outcome::Usage => "Usage\n",
             Outcome::BadJson => "BadJson\n",
             Outcome::BadDocument => "BadDocument\n",
+            Outcome::BadQuery => "BadQuery\n",
+            Outcome::UnknownTable => "UnknownTable\n",
             Outcome::Refused(line) | Outcome::Faulted(line) => line.as_str(),
             Outcome::ReadFault => "ReadFault\n",
             Outcome::WriteFault => "WriteFault\n",

@@ -3,14 +3,17 @@ use Rattle.std.proofs.Common.{◌≡◌, ◌≢◌, inl, inr, ℕ, List, [], ◌
 use Rattle.std.specs.Prelude.{None, codes, map, string_bytes}
 use Rattle.std.proofs.lemmas.List.Elements.{All-cons, All-nil}
 use Rattle.std.proofs.lemmas.List.Kept.{AllPairs-cons}
-use Rattle.tool_words.proofs.Giving.{not-run}
+use Rattle.tool_words.proofs.Giving.{not-named}
 use Rattle.tool_words.proofs.OneMore.{not-serial}
 use Rattle.tool_words.proofs.Reading.{AreRefused, refused-more, refused-twice, refused-value}
-use Rattle.tool_words.specs.Words.{AreWords, IsAllowed, IsRun, Number, Serial, flag_of}
+use Rattle.tool_words.specs.Words.{AreWords, IsAllowed, IsRun, IsText, Number, Serial, flag_of}
 use Rattle.tool_words.specs.declared.settings.Kind.TheVariants.{Workers, Rows, Seed}
 
 bare-run : (words : List (String Global)) → map string_bytes words ≡ codes "run" ∷ [] → IsRun words
 bare-run words e = ([], record { words_are = e; allowed = All-nil IsAllowed; differ = λ i j d below there. absurd (omega arith) })
+
+bare-text : (words : List (String Global)) → map string_bytes words ≡ codes "text" ∷ [] → IsText words
+bare-text words e = ([], record { words_are = e; allowed = All-nil IsAllowed; differ = λ i j d below there. absurd (omega arith) })
 
 serial-and-workers : (words : List (String Global)) → map string_bytes words ≡ codes "run" ∷ codes "--serial" ∷ codes "--workers" ∷ codes "0004" ∷ [] → IsRun words
 serial-and-workers words e = (
@@ -35,9 +38,10 @@ greatest-seed words e = (
 )
 
 none-of-run : (words : List (String Global)) (rest : List (List ℕ)) → map string_bytes words ≡ codes "run" ∷ rest → AreRefused [] rest → ¬ AreWords words
-none-of-run words rest e refused (inl run) = not-run words rest e refused run
-none-of-run words rest e refused (inr (inl help)) = let f : codes "run" ∷ rest ≡ codes "--help" ∷ [] = sym e ∙ help in cc
-none-of-run words rest e refused (inr (inr version)) = let f : codes "run" ∷ rest ≡ codes "--version" ∷ [] = sym e ∙ version in cc
+none-of-run words rest e refused (inl run) = not-named (codes "run") words rest e refused run
+none-of-run words rest e refused (inr (inl text)) = let f = sym e ∙ text.1.words_are in cc
+none-of-run words rest e refused (inr (inr (inl help))) = let f : codes "run" ∷ rest ≡ codes "--help" ∷ [] = sym e ∙ help in cc
+none-of-run words rest e refused (inr (inr (inr version))) = let f : codes "run" ∷ rest ≡ codes "--version" ∷ [] = sym e ∙ version in cc
 
 no-workers : (words : List (String Global)) → map string_bytes words ≡ codes "run" ∷ codes "--workers" ∷ codes "0" ∷ [] → ¬ AreWords words
 no-workers words e = none-of-run words _ e (refused-value [] (Number Workers (codes "0")) _ [] refl (λ a. let h = a.1.0 in omega arith))
@@ -53,5 +57,6 @@ twice-serial words e = none-of-run words _ e (refused-more [] Serial _ (codes "-
 
 explain : (words : List (String Global)) → map string_bytes words ≡ codes "explain" ∷ [] → ¬ AreWords words
 explain words e (inl (settings, run)) = let f = sym e ∙ run.words_are in cc
-explain words e (inr (inl help)) = let f = sym e ∙ help in cc
-explain words e (inr (inr version)) = let f = sym e ∙ version in cc
+explain words e (inr (inl (settings, text))) = let f = sym e ∙ text.words_are in cc
+explain words e (inr (inr (inl help))) = let f = sym e ∙ help in cc
+explain words e (inr (inr (inr version))) = let f = sym e ∙ version in cc

@@ -5,7 +5,7 @@ use Rattle.std.specs.List.{flat_map}
 use Rattle.std.proofs.lemmas.List.Elements.{All-contains, All-nil}
 use Rattle.ps_options.specs.declared.options.Options.{Options}
 use Rattle.tool_words.specs.Told.{IsSet, IsTold, MayStand, told_at}
-use Rattle.tool_words.specs.Words.{Give, IsAllowed, IsInRange, IsRun, IsRunWith, IsSetOrDefault, Number, Setting, words_of}
+use Rattle.tool_words.specs.Words.{Give, IsAllowed, IsInRange, IsNamed, IsNamedWith, IsSetOrDefault, Number, Setting, words_of}
 use Rattle.tool_words.specs.declared.settings.Kind.{Kind}
 use Rattle.tool_words.specs.declared.settings.Kind.TheVariants.{Workers, Rows, Partitions, Seed}
 use Rattle.tool_words.specs.declared.settings.Told.{Told}
@@ -55,12 +55,12 @@ module _ (told : Told) (settings : List Setting) (h : IsTold told settings) wher
       let d = in-range settings Partitions 16 p allowed (omega arith, omega arith) (set-or-default settings Partitions 16 p told.partitions (h.numbers Partitions) ep) in
       omega arith
 
-pub same-rest : (all rest more : List (List ℕ)) → all ≡ codes "run" ∷ rest → all ≡ codes "run" ∷ more → rest ≡ more
-same-rest all rest more e f = cc
+pub same-rest : (name : List ℕ) (all rest more : List (List ℕ)) → all ≡ name ∷ rest → all ≡ name ∷ more → rest ≡ more
+same-rest name all rest more e f = cc
 
-pub not-run : (all : List (String Global)) (rest : List (List ℕ)) → map string_bytes all ≡ codes "run" ∷ rest → ((more : List Setting) → rest ≡ flat_map words_of more → ¬ MayStand more) → ¬ IsRun all
-not-run all rest e never (settings, run) =
-    never settings (same-rest (map string_bytes all) rest (flat_map words_of settings) e run.words_are) (record { allowed = run.allowed; differ = run.differ })
+pub not-named : (name : List ℕ) (all : List (String Global)) (rest : List (List ℕ)) → map string_bytes all ≡ name ∷ rest → ((more : List Setting) → rest ≡ flat_map words_of more → ¬ MayStand more) → ¬ IsNamed name all
+not-named name all rest e never (settings, named) =
+    never settings (same-rest name (map string_bytes all) rest (flat_map words_of settings) e named.words_are) (record { allowed = named.allowed; differ = named.differ })
 
-pub run-with : (all words : List (String Global)) (settings : List Setting) → map string_bytes all ≡ codes "run" ∷ map string_bytes words → map string_bytes words ≡ flat_map words_of settings → MayStand settings → IsRunWith all settings
-run-with all words settings e f m = record { words_are = e ∙ ap (λ rest. codes "run" ∷ rest) f; allowed = m.allowed; differ = m.differ }
+pub named-with : (name : List ℕ) (all words : List (String Global)) (settings : List Setting) → map string_bytes all ≡ name ∷ map string_bytes words → map string_bytes words ≡ flat_map words_of settings → MayStand settings → IsNamedWith name all settings
+named-with name all words settings e f m = record { words_are = e ∙ ap (λ rest. name ∷ rest) f; allowed = m.allowed; differ = m.differ }

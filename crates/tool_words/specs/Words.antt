@@ -6,7 +6,7 @@ use Rattle.std.specs.Str.Parse.{digits_value}
 use Rattle.std.specs.declared.alloc.Global.{Global}
 use Rattle.ps_options.specs.declared.options.Options.{Options}
 use Rattle.tool_words.specs.declared.command.Command.{Command}
-use Rattle.tool_words.specs.declared.command.Command.TheVariants.{Run, Help, Version}
+use Rattle.tool_words.specs.declared.command.Command.TheVariants.{Run, Text, Help, Version}
 use Rattle.tool_words.specs.declared.settings.Kind.{Kind}
 use Rattle.tool_words.specs.declared.settings.Kind.TheVariants.{Workers, Rows, Partitions, Seed}
 
@@ -64,15 +64,26 @@ pub record Give (settings : List Setting) (options : Options) (serial : Bool) : 
   pub seed : IsSetOrDefault settings Seed 0 options.seed
   pub serial_is : IsTrue serial ↔ Contains settings Serial
 
--- the words are `run` and then those of these settings, each allowed, and no two by one flag
-pub record IsRunWith (words : List (String Global)) (settings : List Setting) : Type 0 where
-  pub words_are : map string_bytes words ≡ codes "run" ∷ flat_map words_of settings
+-- the words are a command's name and then those of these settings, each allowed, and no two by one flag
+pub record IsNamedWith (name : List ℕ) (words : List (String Global)) (settings : List Setting) : Type 0 where
+  pub words_are : map string_bytes words ≡ name ∷ flat_map words_of settings
   pub allowed : All IsAllowed settings
   pub differ : AllPairs (λ s t. flag_of s ≢ flag_of t) settings
 
--- the words are a command `run`
+-- the words are that name and some settings
+abbrev pub IsNamed : List ℕ → List (String Global) → Type 0
+IsNamed name words = (settings : List Setting) × IsNamedWith name words settings
+
+-- the words are a command `run`, and a command `text`
 abbrev pub IsRun : List (String Global) → Type 0
-IsRun words = (settings : List Setting) × IsRunWith words settings
+IsRun words = IsNamed (codes "run") words
+
+abbrev pub IsText : List (String Global) → Type 0
+IsText words = IsNamed (codes "text") words
+
+-- the words are a command that reads a document
+abbrev pub ReadsDocument : List (String Global) → Type 0
+ReadsDocument words = IsRun words ⊎ IsText words
 
 -- the words are `--help` or `--version`, alone
 abbrev pub IsHelp : List (String Global) → Type 0
@@ -83,10 +94,15 @@ IsVersion words = map string_bytes words ≡ codes "--version" ∷ []
 
 -- the words are a command
 abbrev pub AreWords : List (String Global) → Type 0
-AreWords words = IsRun words ⊎ IsHelp words ⊎ IsVersion words
+AreWords words = IsRun words ⊎ IsText words ⊎ IsHelp words ⊎ IsVersion words
+
+-- the words are that name and some settings, which give these options
+abbrev pub IsNamedCommand : List ℕ → List (String Global) → Options → Bool → Type 0
+IsNamedCommand name words options serial = (settings : List Setting) × IsNamedWith name words settings × Give settings options serial
 
 -- the words are this command
 abbrev pub IsCommand : List (String Global) → Command → Type 0
-IsCommand words (Run options serial) = (settings : List Setting) × IsRunWith words settings × Give settings options serial
+IsCommand words (Run options serial) = IsNamedCommand (codes "run") words options serial
+IsCommand words (Text options serial) = IsNamedCommand (codes "text") words options serial
 IsCommand words Help = IsHelp words
 IsCommand words Version = IsVersion words

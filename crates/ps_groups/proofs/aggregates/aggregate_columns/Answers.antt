@@ -37,8 +37,8 @@ loop-i-preserved c =
     record {
       kinds = kinds-more f aggs schema i agg k c.loop-i-test.true c.index-aggs-i.is there c.in-Ok.column cs new c.loop-i.invariant.kinds c.in-Ok.ensures.kind c.in_ok-push-in-Ok.ensures.items;
       columns = columns-more f aggs schema i agg k c.loop-i-test.true c.index-aggs-i.is there c.args.at.0 (group_tables c.args.df.now c.args.numbering.now) c.in-Ok.column cs new c.loop-i.invariant.columns c.in-Ok.ensures.column c.in_ok-push-in-Ok.ensures.items;
+      apart = c.in-Ok.ensures.apart;
       together = c.in-Ok.ensures.together;
-      made = c.in-Ok.ensures.made;
     }
 
 pub returns-in-Err-clause-fault : goal.returns-in-Err-clause-fault

@@ -1,6 +1,7 @@
-use Rattle.std.proofs.Common.{◌≡◌, ℕ, ◌<◌, List, ◌++◌, length, map, subst, sym, ◌∙◌}
+use Rattle.std.proofs.Common.{◌≡◌, ℕ, ◌<◌, ◌≤◌, List, ◌++◌, length, map, subst, sym, take, ◌∙◌}
 use Rattle.std.specs.List.{All}
 use Rattle.std.proofs.lemmas.List.{length-map}
+use Rattle.ps_frame.specs.Aggregates.{max_rows}
 use Rattle.ps_frame.specs.Frames.{HasKinds, IsFrame, column_values}
 use Rattle.ps_frame.specs.Gathered.{gathered}
 use Rattle.ps_frame.specs.Tables.{rows_of}
@@ -10,17 +11,33 @@ use Rattle.ps_meaning.specs.Steps.{key_trees}
 use Rattle.ps_meaning.specs.declared.options.ExprIR.{ExprIR}
 use Rattle.ps_zip.proofs.Results.{if_ok}
 use Rattle.ps_groups.specs.Grouped.{last_fields}
-use Rattle.ps_groups.proofs.Grouping.{firsts-there, group-frame, groups-clean, rows-of-groups}
+use Rattle.ps_groups.proofs.Grouping.{few, firsts-inside, group-frame, groups-clean, key-frame, keys-count, rows-of-groups}
 use Rattle.ps_groups.proofs.Results.{memory-error, on_ok}
 use Rattle.ps_groups.proofs.group_by.groups_of.Goals as goal
 
+pub rows_of_groups-requires-clause-width : goal.rows_of_groups-requires-clause-width
+rows_of_groups-requires-clause-width c =
+    let trees = key_trees (tree_at c.args.arena.now.items) c.args.aggs.now in
+    subst (λ (cs : List Series). length cs ≤ length c.args.schema.now) (sym c.as_slice-keys.ensures.value) (keys-count c.args.keyed.now.table c.args.keyed.now.keys.items trees c.args.schema.now c.requires)
+
+pub rows_of_groups-requires-clause-own : goal.rows_of_groups-requires-clause-own
+rows_of_groups-requires-clause-own c =
+    let trees = key_trees (tree_at c.args.arena.now.items) c.args.aggs.now in
+    let own = key-frame c.args.keyed.now.table c.args.keyed.now.keys.items trees c.args.schema.now c.requires c.in_ok-numbering.ensures.small in
+    subst (λ (cs : List Series). IsFrame (take (length cs) c.args.schema.now) cs c.height-height.result) (sym c.as_slice-keys.ensures.value)
+    (subst (λ m. IsFrame (take (length c.args.keyed.now.keys.items) c.args.schema.now) c.args.keyed.now.keys.items m) (sym c.height-height.ensures.rows) own)
+
 pub rows_of_groups-requires-clause-there : goal.rows_of_groups-requires-clause-there
 rows_of_groups-requires-clause-there c =
-    let keys = c.args.keyed.now.keys.items in
     let trees = key_trees (tree_at c.args.arena.now.items) c.args.aggs.now in
-    subst (λ (ns : List ℕ). All (λ (x : Series). All (λ i. i < length x.values) ns) c.as_slice-keys.result.now) (sym c.as_slice.ensures.value)
-    (subst (All (λ (x : Series). All (λ i. i < length x.values) c.in_ok-numbering.numbering.firsts.items)) (sym c.as_slice-keys.ensures.value)
-    (firsts-there c.args.keyed.now.table keys trees c.args.schema.now c.requires c.in_ok-numbering.numbering c.in_ok-numbering.ensures.numbers))
+    let inside = firsts-inside c.args.keyed.now.table c.args.keyed.now.keys.items trees c.args.schema.now c.requires c.in_ok-numbering.numbering c.in_ok-numbering.ensures.numbers in
+    subst (All (λ i. i < c.height-height.result)) (sym c.as_slice.ensures.value) (subst (λ m. All (λ i. i < m) c.in_ok-numbering.numbering.firsts.items) (sym c.height-height.ensures.rows) inside)
+
+pub rows_of_groups-requires-clause-few : goal.rows_of_groups-requires-clause-few
+rows_of_groups-requires-clause-few c =
+    let trees = key_trees (tree_at c.args.arena.now.items) c.args.aggs.now in
+    subst (λ (ns : List ℕ). length ns ≤ max_rows) (sym c.as_slice.ensures.value)
+    (few c.args.keyed.now.table c.args.keyed.now.keys.items trees c.args.schema.now c.requires c.in_ok-numbering.numbering c.in_ok-numbering.ensures.numbers c.in_ok-numbering.ensures.small)
 
 pub rows_of_groups-requires-clause-fields : goal.rows_of_groups-requires-clause-fields
 rows_of_groups-requires-clause-fields c =

@@ -1,0 +1,4 @@
+pub mod Agreeing
+pub mod Narrowed
+pub mod Walking
+pub mod Found

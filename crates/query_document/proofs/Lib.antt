@@ -1,0 +1,4 @@
+mod Differing
+mod MembersFound
+mod NoQuery
+pub mod OneQuery
