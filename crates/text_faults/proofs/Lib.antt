@@ -3,3 +3,4 @@ mod EvenEval
 mod EvenSteps
 mod EvenPlans
 mod QuerySteps
+pub mod RowsAlone
