@@ -1,8 +1,8 @@
 -- Chains of operators that bind alike, and what stands behind an expression.
-use Rattle.std.proofs.Common.{◌≡◌, ℕ, suc, ◌+◌, ◌<◌, ◌≤◌, ◌⊎◌, Bool, true, false, cond, List, [], ◌∷◌, ◌++◌, max, sym, refl, ap, ◌∙◌, subst, inl, inr, ⊎_elim, arith, append_assoc, append-nil}
+use Rattle.std.proofs.Common.{◌≡◌, ℕ, suc, ◌<◌, ◌≤◌, ◌⊎◌, Bool, true, false, cond, List, [], ◌∷◌, ◌++◌, sym, refl, ap, ◌∙◌, subst, inl, inr, ⊎_elim, arith, append_assoc, append-nil}
 use Rattle.std.specs.Prelude.{◌≢◌, codes}
 use Rattle.std.specs.Str.{bytes_eq}
-use Rattle.std.proofs.lemmas.Bool.{cases_lt, cases_eq, true≢false, false≢true}
+use Rattle.std.proofs.lemmas.Bool.{cases_lt, cases_eq, true≢false}
 use Rattle.ps_frame.specs.declared.expr.Operator.{Operator}
 use Rattle.ps_frame.specs.declared.expr.Operator.TheVariants as op
 use Rattle.text_queries.specs.Grammar.{IsExpr, is_name, is_integer, is_text, is_truth, is_null, is_call, is_len, is_enclosed, is_operation, binding, left_binding, operator_token}
@@ -74,22 +74,6 @@ no_mark op.Modulus = refl
 
 pub operator_no_mark : (o : Operator) (t : Token) → is_mark t ≡ true → operator_token o ≢ t
 operator_no_mark o t mark e = true≢false (sym mark ∙ ap is_mark (sym e) ∙ no_mark o)
-
--- operators bind at 1 to 5
-pub binding_above : (o : Operator) → 1 ≤ binding o
-binding_above op.Or = omega arith
-binding_above op.And = omega arith
-binding_above op.Eq = omega arith
-binding_above op.NotEq = omega arith
-binding_above op.Lt = omega arith
-binding_above op.LtEq = omega arith
-binding_above op.Gt = omega arith
-binding_above op.GtEq = omega arith
-binding_above op.Plus = omega arith
-binding_above op.Minus = omega arith
-binding_above op.Multiply = omega arith
-binding_above op.FloorDivide = omega arith
-binding_above op.Modulus = omega arith
 
 pub binding_below : (o : Operator) → binding o < 6
 binding_below op.Or = omega arith

@@ -1,5 +1,5 @@
 -- Items, keys and names: what their readings are made of.
-use Rattle.std.proofs.Common.{◌≡◌, ℕ, ◌<◌, ◌≤◌, ◌⊎◌, Bool, true, false, List, [], ◌∷◌, ◌++◌, length, sym, refl, ap, ◌∙◌, subst, inl, inr, arith, append_assoc}
+use Rattle.std.proofs.Common.{◌≡◌, ℕ, ◌⊎◌, Bool, true, false, List, [], ◌∷◌, ◌++◌, sym, refl, ap, ◌∙◌, subst, inl, inr, append_assoc}
 use Rattle.std.specs.Prelude.{◌≢◌, codes}
 use Rattle.std.specs.Str.{bytes_eq}
 use Rattle.ps_frame.specs.declared.expr.Operator.{Operator}
@@ -90,12 +90,6 @@ item_at tokens first behind rest after part parts begins goes =
     let left : rest ≡ parts.more ++ after = cc in
     (parts.more, left, subst (λ t. IsName t part.name) same parts.named, parts.whole)
 
-pub item_is : (tokens first_behind : List Token) (after : List Token) (part : Item) → ItemParts tokens after part → (first : Token) → tokens ≡ first ∷ first_behind → (rest : List Token) × (first_behind ≡ token.Sign sign.Is ∷ rest)
-item_is tokens behind after part parts first begins =
-    let all : first ∷ behind ≡ parts.first ∷ token.Sign sign.Is ∷ (parts.more ++ after) = sym begins ∙ parts.begins in
-    let left : behind ≡ token.Sign sign.Is ∷ (parts.more ++ after) = cc in
-    (parts.more ++ after, left)
-
 pub item_found : (tokens : List Token) (first : Token) (behind rest after : List Token) (name : List ℕ) (e : Expr) → tokens ≡ first ∷ behind → behind ≡ token.Sign sign.Is ∷ rest → IsName first name → ((front : List Token) × (rest ≡ front ++ after) × IsShallow IsWhole front e)
     → (front : List Token) × (tokens ≡ front ++ after) × HoldsShallow IsItem (λ item. item.expr) front (record { name = name; expr = e })
 item_found tokens first behind rest after name e begins goes named found =
@@ -170,7 +164,3 @@ column_at tokens first rest front after name begins is h =
     let same : h.0 ≡ first = cc in
     let left : rest ≡ after = cc in
     (subst (λ t. IsName t name) same h.2, left)
-
-pub column_some : (tokens front after : List Token) (name : List ℕ) → tokens ≡ front ++ after → IsColumn front name → tokens ≢ []
-column_some tokens front after name is h none =
-    let all : [] ≡ h.0 ∷ after = sym none ∙ is ∙ ap (λ f. f ++ after) h.1 in cc

@@ -1,15 +1,15 @@
 -- Calls, parentheses and leaves: what their readers answer.
-use Rattle.std.proofs.Common.{◌≡◌, ℕ, suc, ◌+◌, ◌-◌, ◌<◌, ◌≤◌, max, cond, List, [], ◌∷◌, ◌++◌, length, Err, sym, refl, ap, ◌∙◌, subst, arith, append_assoc}
+use Rattle.std.proofs.Common.{◌≡◌, ℕ, suc, ◌-◌, ◌<◌, ◌≤◌, cond, List, [], ◌∷◌, ◌++◌, sym, refl, ap, ◌∙◌, subst, arith, append_assoc}
 use Rattle.std.specs.Prelude.{◌≢◌, codes}
 use Rattle.std.specs.Str.{bytes_eq}
 use Rattle.ps_frame.specs.declared.expr.Operator.{Operator}
-use Rattle.text_queries.specs.Grammar.{IsExpr, binding, function_word, is_call, is_enclosed, is_len, operator_token}
+use Rattle.text_queries.specs.Grammar.{IsExpr, function_word, is_call, is_enclosed, is_len}
 use Rattle.text_queries.specs.Queries.{Expr, Binary, Call, Len, expr_depth}
 use Rattle.text_queries.specs.declared.words.TextFn.{TextFn}
 use Rattle.text_queries.specs.declared.words.TextFn.TheVariants as fun
 use Rattle.text_reading.specs.Reading.{Ends, IsCall, IsClosed, IsLeaf, IsLenOf, IsRefusal, IsShallow}
 use Rattle.text_reading.proofs.Chains.{Chain, chain_of, ends_finer, goes_deeper, is_memory}
-use Rattle.text_reading.proofs.ChainSteps.{Operand, SoFar, operand_of}
+use Rattle.text_reading.proofs.ChainSteps.{Operand}
 use Rattle.text_reading.proofs.LeafForms.{expr_some, of_leaf}
 use Rattle.text_reading.proofs.Primaries.{Called, call_of, called, function, leaf_depth, leaf_of, no_len, open_of, rows}
 use Rattle.text_tokens.specs.declared.error.TextError.{TextError}
@@ -90,14 +90,6 @@ len_call opens word front e h =
           (subst (λ n. IsExpr n 6 (token.Word (codes "len") ∷ token.Sign sign.Open ∷ token.Sign sign.Close ∷ []) Len) (sym opens_are) is_len))),
       omega (arith, ap expr_depth h.3),
     )
-
--- where no function has the word, a call is that
-pub len_part : (opens : ℕ) (word : List ℕ) (front : List Token) (part : Expr) → ((f : TextFn) → word ≢ function_word f) → IsShallow (IsCall opens word) front part → IsLenOf opens word front part
-len_part opens word front part none h = of (called opens word front part h.0)
-  where
-    of : Called opens word front part → IsLenOf opens word front part
-    of (function g operand word_is part_is closed) = absurd (none g word_is)
-    of (rows word_is front_is part_is some) = (some, word_is, front_is, part_is)
 
 -- an expression and the parenthesis that closes it
 pub closed_found : (opens inner : ℕ) (tokens rest after : List Token) (e : Expr) → 1 ≤ opens → inner ≡ opens - 1 → ((front : List Token) × (tokens ≡ front ++ rest) × IsShallow (IsExpr inner 1) front e) → rest ≡ token.Sign sign.Close ∷ after

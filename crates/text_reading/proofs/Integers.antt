@@ -1,11 +1,11 @@
 -- Integers: what `parse` says of digits, and which tokens are an integer.
-use Rattle.std.proofs.Common.{◌≡◌, ℕ, ◌<◌, ◌≤◌, ◌^◌, List, [], ◌∷◌, ◌++◌, length, sym, refl, ap, ◌∙◌, subst, arith, rules, true, false}
-use Rattle.std.specs.Prelude.{◌≢◌, ℤ, pos, neg_ℤ, Result, Ok, Err, IsTrue, IfNone, FitsSigned}
+use Rattle.std.proofs.Common.{◌≡◌, ℕ, ◌<◌, ◌≤◌, ◌^◌, List, [], ◌∷◌, ◌++◌, length, sym, refl, ap, ◌∙◌, subst, arith, rules}
+use Rattle.std.specs.Prelude.{ℤ, pos, neg_ℤ, Result, Ok, Err, IsTrue, IfNone, FitsSigned}
 use Rattle.std.specs.Char.{is_ascii_digit}
 use Rattle.std.specs.List.{list_all}
 use Rattle.std.specs.Result.{result_ok}
 use Rattle.std.specs.Str.Parse.{ParsesUnsigned, digits_value}
-use Rattle.std.proofs.lemmas.Bool.{true≢false, false≢true}
+use Rattle.std.proofs.lemmas.Bool.{false≢true}
 use Rattle.std.proofs.lemmas.Int.{ints, to_z-of_z}
 use Rattle.std.proofs.lemmas.Str.Parse.{IsNumeralModel, numerals_by_value, parse_digits}
 use Rattle.text_queries.specs.Grammar.{IsInteger, number}
@@ -78,15 +78,6 @@ minus_only tokens behind text rest front after n begins goes is h = of (integer_
         let same : own ≡ text = cc in
         let left : rest ≡ after = cc in
         (subst (λ d. IsToken (token.Digits d)) same well, n_is ∙ ap (λ d. neg_ℤ (pos (number d))) same, subst (λ d. number d ≤ 2 ^ 63) same low, left)
-
--- where neither does, no integer stands at the front
-pub no_integer : (tokens front after : List Token) (n : ℤ) → tokens ≡ front ++ after → IsInteger front n → ((digits : List ℕ) (rest : List Token) → tokens ≢ token.Digits digits ∷ rest)
-    → ((digits : List ℕ) (rest : List Token) → tokens ≢ token.Sign sign.Minus ∷ token.Digits digits ∷ rest) → ⊥
-no_integer tokens front after n is h no_digits no_minus = of (integer_form front n h)
-  where
-    of : IntegerForm front n → ⊥
-    of (plain own front_is well n_is low) = no_digits own after (is ∙ ap (λ f. f ++ after) front_is)
-    of (minus own front_is well n_is low) = no_minus own after (is ∙ ap (λ f. f ++ after) front_is)
 
 -- what the reader answers where digits begin the tokens
 pub plain_found : (tokens : List Token) (digits text : List ℕ) (rest : List Token) (n : ℤ) → tokens ≡ token.Digits digits ∷ rest → text ≡ digits → IsInteger (token.Digits text ∷ []) n → (front : List Token) × (tokens ≡ front ++ rest) × IsInteger front (to_z w64 (of_z w64 n))

@@ -1,17 +1,15 @@
 -- What expressions without operators outside of parentheses are, by their first tokens.
-use Rattle.std.proofs.Common.{◌≡◌, ℕ, suc, ◌+◌, ◌<◌, ◌≤◌, ◌⊎◌, Bool, true, false, cond, List, [], ◌∷◌, ◌++◌, length, sym, refl, ap, ◌∙◌, subst, inl, inr, arith, append_assoc, append-nil, length-append}
+use Rattle.std.proofs.Common.{◌≡◌, ℕ, ◌≤◌, Bool, true, false, cond, List, [], ◌∷◌, ◌++◌, length, sym, refl, ap, ◌∙◌, subst, arith, length-append}
 use Rattle.std.specs.Prelude.{◌≢◌, ℤ, codes}
 use Rattle.std.specs.Str.{bytes_eq}
 use Rattle.std.proofs.lemmas.Bool.{true≢false, false≢true}
 use Rattle.std.proofs.lemmas.Slice.Eq.{bytes_eq-Decides}
 use Rattle.ps_frame.specs.declared.value.DataType.{DataType}
 use Rattle.ps_frame.specs.declared.value.DataType.TheVariants as kind
-use Rattle.text_queries.specs.Grammar.{IsExpr, IsInteger, IsName, is_name, is_integer, is_text, is_truth, is_null, is_call, is_len, is_enclosed, is_operation, binding, function_word, is_reserved, kind_word, operator_token, truth_word}
-use Rattle.text_queries.specs.Queries.{Expr, Name, Int, Text, Truth, Null, Call, Len}
-use Rattle.text_queries.specs.declared.words.TextFn.{TextFn}
-use Rattle.text_reading.specs.Reading.{Anything, Ends, IsClosed, IsLeaf}
+use Rattle.text_queries.specs.Grammar.{IsExpr, IsInteger, IsName, is_name, is_integer, is_text, is_truth, is_null, is_call, is_len, is_enclosed, is_operation, is_reserved, kind_word, operator_token, truth_word}
+use Rattle.text_queries.specs.Queries.{Expr, Name, Int, Text, Truth, Null}
+use Rattle.text_reading.specs.Reading.{Anything, IsLeaf}
 use Rattle.text_reading.proofs.Chains.{binding_below}
-use Rattle.text_tokens.specs.declared.token.Sign.{Sign}
 use Rattle.text_tokens.specs.declared.token.Sign.TheVariants as sign
 use Rattle.text_tokens.specs.declared.token.Token.{Token}
 use Rattle.text_tokens.specs.declared.token.Token.TheVariants as token
@@ -243,10 +241,6 @@ null_reads tokens word rest k begins spelled front after part is h =
     let text : word ≡ kind_word own.0 = cc in
     let behind : rest ≡ after = cc in
     (ap Null (kind_once k own.0 (sym spelled ∙ text)) ∙ sym own.2, behind)
-
--- where no kind's word stands there
-pub null_none : (tokens front after : List Token) (part : Expr) → tokens ≡ front ++ after → IsLeaf (token.Word (codes "null") ∷ front) part → ((k : DataType) (rest : List Token) → tokens ≢ token.Word (kind_word k) ∷ rest) → ⊥
-null_none tokens front after part is h none = let own = leaf_null front part h in none own.0 after (is ∙ ap (λ f. f ++ after) own.1)
 
 -- what a reader of the tokens behind the first one answers is the answer for all of them
 pub reads_behind : {Y : Type 0} (P : List Token → Y → Type 0) (Q : Y → List Token → Type 0) (Follows : List Token → Type 0) → (tokens : List Token) (first seen : Token) (others : List Token) → tokens ≡ first ∷ others → first ≡ seen

@@ -1,16 +1,15 @@
 -- What an expression without operators outside of parentheses is, by the tokens that it begins with.
-use Rattle.std.proofs.Common.{◌≡◌, ℕ, suc, ◌+◌, ◌<◌, ◌≤◌, Bool, true, false, List, [], ◌∷◌, ◌++◌, length, sym, refl, ap, ◌∙◌, subst, arith}
+use Rattle.std.proofs.Common.{◌≡◌, ℕ, ◌≤◌, false, List, [], ◌∷◌, ◌++◌, length, sym, refl, subst, arith}
 use Rattle.std.specs.Prelude.{◌≢◌, codes}
 use Rattle.std.specs.Str.{bytes_eq}
-use Rattle.std.proofs.lemmas.Bool.{true≢false, false≢true}
-use Rattle.ps_frame.specs.declared.value.DataType.{DataType}
+use Rattle.std.proofs.lemmas.Bool.{false≢true}
 use Rattle.text_queries.specs.Grammar.{IsExpr, IsInteger, IsName, is_name, is_integer, is_text, is_truth, is_null, is_call, is_len, is_enclosed, is_operation, function_word, kind_word, truth_word}
 use Rattle.text_queries.specs.Queries.{Expr, Call, Len, expr_depth}
 use Rattle.text_queries.specs.declared.words.TextFn.{TextFn}
 use Rattle.text_queries.specs.declared.words.TextFn.TheVariants as fun
 use Rattle.text_reading.specs.Reading.{IsCall, IsClosed, IsLeaf}
 use Rattle.text_reading.proofs.Chains.{binding_below}
-use Rattle.text_reading.proofs.LeafForms.{at_front, integer_some, integer_starts, starts_integer, texts_differ}
+use Rattle.text_reading.proofs.LeafForms.{at_front, integer_some, integer_starts, texts_differ}
 use Rattle.text_tokens.specs.declared.token.Sign.TheVariants as sign
 use Rattle.text_tokens.specs.declared.token.Token.{Token}
 use Rattle.text_tokens.specs.declared.token.Token.TheVariants as token

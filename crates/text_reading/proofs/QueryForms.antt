@@ -1,8 +1,8 @@
 -- Stages one behind the other, and the query that they make.
-use Rattle.std.proofs.Common.{◌≡◌, ℕ, ◌<◌, ◌≤◌, max, List, [], ◌∷◌, ◌++◌, length, sym, refl, ap, ◌∙◌, subst, arith, append_assoc, append-nil}
+use Rattle.std.proofs.Common.{◌≡◌, ℕ, ◌≤◌, max, List, [], ◌∷◌, ◌++◌, length, sym, refl, ap, ◌∙◌, subst, arith, append_assoc, append-nil}
 use Rattle.std.specs.Prelude.{◌≢◌, Result, Ok, Err, IfOk, codes}
-use Rattle.text_queries.specs.Grammar.{AreStages, IsColumn, IsName, IsQuery, IsStage, ReadsAs}
-use Rattle.text_queries.specs.Queries.{Query, Stage, depth, greatest, stage_depth}
+use Rattle.text_queries.specs.Grammar.{AreStages, IsColumn, IsQuery, ReadsAs}
+use Rattle.text_queries.specs.Queries.{Query, Stage, greatest, stage_depth}
 use Rattle.text_reading.specs.Reading.{AreShallowStages, EndsStage, IsAnswer, IsShallowQuery, IsShallowStage}
 use Rattle.text_tokens.specs.declared.error.TextError.{TextError}
 use Rattle.text_tokens.specs.declared.error.TextError.TheVariants as refusal
@@ -86,15 +86,6 @@ stages_all tokens stages rest so_far end = (
     of [] h = refl
     of (stage ∷ others) h = absurd (let none : [] ≡ token.Sign sign.Bar ∷ (h.0 ++ h.1) = sym end ∙ h.2 in cc)
 
--- a query is `from`, its table and its stages
-pub query_found : (tokens behind rest : List Token) (source : List ℕ) (stages : List Stage) → tokens ≡ token.Word (codes "from") ∷ behind → ((front : List Token) × (behind ≡ front ++ rest) × IsColumn front source) → AreShallowStages rest stages
-    → (let made : Query = record { source = source; stages = stages } in IsShallowQuery tokens made)
-query_found tokens behind rest source stages begins found more =
-    let t : Token = found.2.0 in (
-      (t, rest, begins ∙ ap (λ b. token.Word (codes "from") ∷ b) (found.1 ∙ ap (λ f. f ++ rest) found.2.1), found.2.2, more.0),
-      more.1,
-    )
-
 pub record QueryParts (behind : List Token) (query : Query) : Type 0 where
   pub first : Token
   pub rest : List Token
@@ -108,15 +99,8 @@ query_parts tokens behind query h begins =
     let split : behind ≡ h.0.0 ∷ h.0.1 = cc in
     record { first = h.0.0; rest = h.0.1; split = split; named = (h.0.0, refl, h.0.3); stages = (h.0.4, h.1) }
 
-pub query_begins : (tokens : List Token) (query : Query) → IsShallowQuery tokens query → (behind : List Token) × (tokens ≡ token.Word (codes "from") ∷ behind)
-query_begins tokens query h = (h.0.0 ∷ h.0.1, h.0.2)
-
 pub query_same : (source : List ℕ) (stages : List Stage) (query : Query) → source ≡ query.source → stages ≡ query.stages → (let made : Query = record { source = source; stages = stages } in made ≡ query)
 query_same source stages query s t i = record { source = s i; stages = t i }
-
--- from tokens to texts
-pub text_reads : (text : List ℕ) (tokens : List Token) (query : Query) → AreTokens tokens text → IsShallowQuery tokens query → ReadsAs text query
-text_reads text tokens query cut h = record { tokens = tokens; cut = cut; is_query = h.0; not_deep = h.1 }
 
 pub tokens_read : (text : List ℕ) (tokens : List Token) (query : Query) → ((others : List Token) → AreTokens others text → tokens ≡ others) → ReadsAs text query → IsShallowQuery tokens query
 tokens_read text tokens query only h = (subst (λ ts. IsQuery ts query) (sym (only h.tokens h.cut)) h.is_query, h.not_deep)

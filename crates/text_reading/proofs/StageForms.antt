@@ -1,12 +1,12 @@
 -- Stages: what their readings are made of, by their first words.
-use Rattle.std.proofs.Common.{◌≡◌, ℕ, ◌<◌, ◌≤◌, ◌^◌, ◌⊎◌, max, Bool, true, false, cond, List, [], ◌∷◌, ◌++◌, length, sym, refl, ap, ◌∙◌, subst, arith, append_assoc}
+use Rattle.std.proofs.Common.{◌≡◌, ℕ, ◌<◌, ◌≤◌, ◌^◌, cond, List, [], ◌∷◌, ◌++◌, length, sym, refl, ap, ◌∙◌, subst, arith, append_assoc}
 use Rattle.std.specs.Prelude.{◌≢◌, ℤ, codes}
 use Rattle.std.specs.Str.{bytes_eq}
 use Rattle.ps_meaning.specs.declared.options.JoinType.{JoinType}
 use Rattle.ps_meaning.specs.declared.options.JoinType.TheVariants as how
-use Rattle.text_queries.specs.Grammar.{IsColumn, IsInteger, IsItem, IsKey, IsName, IsOn, IsStage, IsWhole, Listed, how_word, number}
-use Rattle.text_queries.specs.Queries.{Expr, Item, Key, Stage, Filter, Select, With, Group, Sort, Slice, Distinct, Join, expr_depth, greatest, items_depth, stage_depth}
-use Rattle.text_reading.specs.Reading.{Anything, BehindWord, Ends, EndsKey, EndsList, EndsStage, HoldsShallow, IsShallow, IsShallowStage}
+use Rattle.text_queries.specs.Grammar.{IsColumn, IsInteger, IsItem, IsKey, IsName, IsOn, IsStage, Listed, how_word, number}
+use Rattle.text_queries.specs.Queries.{Expr, Item, Key, Stage, Filter, Select, With, Group, Sort, Slice, Distinct, Join, expr_depth, greatest}
+use Rattle.text_reading.specs.Reading.{Anything, BehindWord, Ends, EndsKey, EndsList, EndsStage, HoldsShallow, IsShallowStage}
 use Rattle.text_reading.proofs.EntryForms.{ends_bar, ends_nothing, ends_word}
 use Rattle.text_tokens.specs.Tokens.{IsToken}
 use Rattle.text_tokens.specs.declared.token.Sign.TheVariants as sign
@@ -132,14 +132,6 @@ DeepItems ts items = Listed (HoldsShallow IsItem (λ item. item.expr)) ts items
 
 abbrev pub DeepKeys : List Token → List Key → Type 0
 DeepKeys ts keys = Listed (HoldsShallow IsKey (λ key. key.expr)) ts keys
-
--- filter
-pub filter_is : (ts : List Token) (stage : Stage) → BehindWord (codes "filter") ts stage → (e : Expr) × (Filter e ≡ stage) × IsShallow IsWhole ts e
-filter_is ts (Filter e) h = (e, refl, (subst (λ u. IsWhole u e) (behind_word (codes "filter") ts h.0.0 h.0.1) h.0.2, h.1))
-filter_is ts stage h = absurd (let same = stage_at (codes "filter") ts stage h.0 in omega (arith, same))
-
-pub filter_found : (tokens after : List Token) (e : Expr) → ((front : List Token) × (tokens ≡ front ++ after) × IsShallow IsWhole front e) → (front : List Token) × (tokens ≡ front ++ after) × BehindWord (codes "filter") front (Filter e)
-filter_found tokens after e found = (found.0, found.1, ((found.0, refl, found.2.0), found.2.1))
 
 -- select and with
 pub select_is : (ts : List Token) (stage : Stage) → BehindWord (codes "select") ts stage → (items : List Item) × (Select items ≡ stage) × DeepItems ts items

@@ -1,5 +1,5 @@
-use Rattle.std.proofs.Common.{◌≡◌, [], ◌∷◌, Err, sym, refl, ap}
-use Rattle.text_reading.proofs.EntryForms.{column_at, name_memory, name_once}
+use Rattle.std.proofs.Common.{[], ◌∷◌, refl}
+use Rattle.text_reading.proofs.EntryForms.{column_at, name_once}
 use Rattle.text_reading.proofs.entries.read_column.Goals as goal
 
 pub returns-in-Ok-clause-found : goal.returns-in-Ok-clause-found

@@ -1,4 +1,3 @@
-use Rattle.std.proofs.Common.{◌≡◌, [], ◌∷◌, Err, sym, refl, ap}
 use Rattle.text_queries.specs.Views.{expr_of}
 use Rattle.text_reading.proofs.EntryForms.{item_at, item_found, item_parts, item_same, name_once}
 use Rattle.text_reading.proofs.entries.read_item.Goals as goal

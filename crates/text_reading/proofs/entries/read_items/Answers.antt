@@ -1,9 +1,9 @@
-use Rattle.std.proofs.Common.{◌≡◌, List, [], ◌∷◌, ◌++◌, length, sym, refl, ap, ◌∙◌, subst, arith}
+use Rattle.std.proofs.Common.{◌≡◌, [], ◌∷◌, ◌++◌, length, sym, ap, ◌∙◌, subst, arith}
 use Rattle.text_queries.specs.Grammar.{IsItem}
 use Rattle.text_queries.specs.Views.{item_of}
 use Rattle.text_reading.specs.Reading.{Ends, HoldsShallow}
 use Rattle.text_reading.proofs.EntryForms.{ends_comma}
-use Rattle.text_reading.proofs.Listing.{AreEntries, entries_all, entries_first, entries_more, first_refused, more_refused}
+use Rattle.text_reading.proofs.Listing.{AreEntries, entries_first, entries_more, first_refused, more_refused}
 use Rattle.text_reading.proofs.entries.read_items.Goals as goal
 use Rattle.text_tokens.specs.declared.error.TextError.TheVariants as refusal
 

@@ -1,4 +1,3 @@
-use Rattle.std.proofs.Common.{◌≡◌, [], ◌∷◌, Err, sym, refl, ap}
 use Rattle.text_queries.specs.Views.{expr_of}
 use Rattle.text_reading.proofs.EntryForms.{key_desc_found, key_desc_reads, key_parts, key_plain_found, key_plain_reads}
 use Rattle.text_reading.proofs.entries.read_key.Goals as goal

@@ -1,9 +1,9 @@
-use Rattle.std.proofs.Common.{◌≡◌, List, [], ◌∷◌, ◌++◌, length, sym, refl, ap, ◌∙◌, subst, arith}
+use Rattle.std.proofs.Common.{◌≡◌, [], ◌∷◌, ◌++◌, length, sym, ap, ◌∙◌, subst, arith}
 use Rattle.text_queries.specs.Grammar.{IsKey}
 use Rattle.text_queries.specs.Views.{key_of}
 use Rattle.text_reading.specs.Reading.{EndsKey, HoldsShallow}
 use Rattle.text_reading.proofs.EntryForms.{ends_key_comma}
-use Rattle.text_reading.proofs.Listing.{AreEntries, entries_all, entries_first, entries_more, first_refused, more_refused}
+use Rattle.text_reading.proofs.Listing.{AreEntries, entries_first, entries_more, first_refused, more_refused}
 use Rattle.text_reading.proofs.entries.read_keys.Goals as goal
 use Rattle.text_tokens.specs.declared.error.TextError.TheVariants as refusal
 

@@ -1,7 +1,7 @@
-use Rattle.std.proofs.Common.{◌≡◌, List, [], ◌∷◌, ◌++◌, length, sym, refl, ap, ◌∙◌, subst, arith}
+use Rattle.std.proofs.Common.{◌≡◌, [], ◌∷◌, ◌++◌, length, sym, ap, ◌∙◌, subst, arith}
 use Rattle.text_queries.specs.Grammar.{IsColumn}
 use Rattle.text_reading.specs.Reading.{Anything}
-use Rattle.text_reading.proofs.Listing.{AreEntries, entries_all, entries_first, entries_more, first_refused, more_refused}
+use Rattle.text_reading.proofs.Listing.{AreEntries, entries_first, entries_more, first_refused, more_refused}
 use Rattle.text_reading.proofs.entries.read_names.Goals as goal
 use Rattle.text_tokens.specs.declared.error.TextError.TheVariants as refusal
 

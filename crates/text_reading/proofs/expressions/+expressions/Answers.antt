@@ -1,9 +1,8 @@
-use Rattle.std.proofs.Common.{◌≡◌, ℕ, ◌+◌, suc, List, [], ◌∷◌, ◌++◌, length, Err, sym, refl, ap, ◌∙◌, subst, add-one, arith}
+use Rattle.std.proofs.Common.{◌≡◌, ℕ, ◌+◌, ◌∷◌, ◌++◌, length, Err, ap, ◌∙◌, add-one, arith}
 use Rattle.std.proofs.lemmas.Result.{IfOk-weaker}
-use Rattle.text_queries.specs.Grammar.{IsExpr}
-use Rattle.text_queries.specs.Queries.{Binary, Call}
+use Rattle.text_queries.specs.Queries.{Call}
 use Rattle.text_queries.specs.Views.{expr_of}
-use Rattle.text_reading.proofs.ChainSteps.{OneMore, Operand, SoFar, chain_done, chain_first, chain_last, chain_more, chain_on, operand_of}
+use Rattle.text_reading.proofs.ChainSteps.{OneMore, chain_done, chain_first, chain_last, chain_more, chain_on, operand_of}
 use Rattle.text_reading.proofs.EntryForms.{ends_close}
 use Rattle.text_reading.proofs.ExprSteps.{binary_memory, call_found, call_memory, call_part, close_once, closed_found, closed_part, called_reads, enclosed_found, enclosed_reads, first_operand, leaf_found, leaf_reads, len_call}
 use Rattle.text_reading.specs.Reading.{Gives}

@@ -1,6 +1,6 @@
-use Rattle.std.proofs.Common.{◌≡◌, List, [], ◌∷◌, ◌++◌, true, false, inl, inr, sym, refl, ap, ◌∙◌, subst}
+use Rattle.std.proofs.Common.{[], ◌∷◌, inl, inr, sym, ap, ◌∙◌, subst}
 use Rattle.text_queries.specs.Grammar.{IsInteger, is_integer, is_name, is_text}
-use Rattle.text_queries.specs.Queries.{Int, Name, Text}
+use Rattle.text_queries.specs.Queries.{Int, Text}
 use Rattle.text_queries.specs.Views.{expr_of}
 use Rattle.text_reading.specs.Reading.{Anything, Gives, IsLeaf}
 use Rattle.text_reading.proofs.Integers.{bits_integer}

@@ -1,4 +1,4 @@
-use Rattle.std.proofs.Common.{◌≡◌, [], ◌∷◌, sym, refl, ap, ◌∙◌, subst}
+use Rattle.std.proofs.Common.{[], ◌∷◌, sym, ap, ◌∙◌}
 use Rattle.text_queries.specs.Grammar.{is_null, kind_word}
 use Rattle.text_reading.proofs.LeafForms.{null_reads}
 use Rattle.text_reading.proofs.leaves.read_null.Goals as goal

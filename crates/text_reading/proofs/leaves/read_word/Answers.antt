@@ -1,5 +1,4 @@
-use Rattle.std.proofs.Common.{◌≡◌, List, [], ◌∷◌, ◌++◌, true, false, sym, refl, ap, ◌∙◌, subst}
-use Rattle.std.specs.Prelude.{codes}
+use Rattle.std.proofs.Common.{[], ◌∷◌, ◌++◌, true, false, sym, refl, ap, ◌∙◌, subst}
 use Rattle.text_queries.specs.Grammar.{is_name, is_reserved, is_truth}
 use Rattle.text_queries.specs.Queries.{Name, Truth}
 use Rattle.text_reading.specs.Reading.{IsLeaf}

@@ -1,5 +1,3 @@
-use Rattle.std.proofs.Common.{◌≡◌, ◌≤◌, ◌^◌, List, [], ◌∷◌, sym, refl, ap, ◌∙◌, subst, arith}
-use Rattle.text_queries.specs.Grammar.{IsInteger, number}
 use Rattle.text_reading.proofs.Integers.{minus_found, minus_reads, plain_found, plain_reads}
 use Rattle.text_reading.proofs.numbers.read_integer.Goals as goal
 

@@ -1,4 +1,4 @@
-use Rattle.std.proofs.Common.{◌≡◌, [], ◌∷◌, map, sym, refl, ap, ◌∙◌, subst}
+use Rattle.std.proofs.Common.{[], ◌∷◌, map, sym, subst}
 use Rattle.text_queries.specs.Views.{stage_of}
 use Rattle.text_reading.specs.Reading.{AreShallowStages}
 use Rattle.text_reading.proofs.QueryForms.{query_parts, query_same}

@@ -1,6 +1,5 @@
-use Rattle.std.proofs.Common.{◌≡◌, Err, sym, refl, ap, ◌∙◌, subst}
+use Rattle.std.proofs.Common.{sym, subst}
 use Rattle.text_queries.specs.Grammar.{ReadsAs}
-use Rattle.text_queries.specs.Queries.{Query}
 use Rattle.text_queries.specs.Views.{query_of}
 use Rattle.text_reading.specs.Reading.{IsShallowQuery}
 use Rattle.text_reading.proofs.QueryForms.{answered, tokens_read, unanswered}

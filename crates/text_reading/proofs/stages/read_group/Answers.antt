@@ -1,4 +1,4 @@
-use Rattle.std.proofs.Common.{◌≡◌, [], ◌∷◌, ◌++◌, map, sym, ap, ◌∙◌}
+use Rattle.std.proofs.Common.{◌∷◌, ◌++◌, map, ◌∙◌}
 use Rattle.std.specs.Prelude.{codes}
 use Rattle.text_queries.specs.Queries.{Group}
 use Rattle.text_queries.specs.Views.{item_of}

@@ -1,4 +1,4 @@
-use Rattle.std.proofs.Common.{◌≡◌, [], ◌∷◌, ◌++◌, sym, refl, ap, ◌∙◌, subst}
+use Rattle.std.proofs.Common.{[], ◌∷◌, ◌++◌, sym, refl, ◌∙◌, subst}
 use Rattle.text_queries.specs.Grammar.{IsOn}
 use Rattle.text_queries.specs.Queries.{Join}
 use Rattle.text_reading.proofs.StageForms.{how_once, join_at, join_found, join_parts}

@@ -1,4 +1,4 @@
-use Rattle.std.proofs.Common.{◌≡◌, map, ap, ◌∙◌}
+use Rattle.std.proofs.Common.{map, ap, ◌∙◌}
 use Rattle.text_queries.specs.Queries.{Select}
 use Rattle.text_queries.specs.Views.{item_of}
 use Rattle.text_reading.proofs.StageForms.{ends_items, select_found, select_is}

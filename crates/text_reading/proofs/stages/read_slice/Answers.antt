@@ -1,4 +1,4 @@
-use Rattle.std.proofs.Common.{◌≡◌, ◌<◌, ◌^◌, [], ◌∷◌, ◌++◌, sym, refl, ap, ◌∙◌, subst, arith, rules}
+use Rattle.std.proofs.Common.{◌<◌, ◌^◌, ◌∷◌, sym, ap, ◌∙◌, subst, arith, rules}
 use Rattle.text_queries.specs.Grammar.{IsInteger, number}
 use Rattle.text_queries.specs.Queries.{Slice}
 use Rattle.text_reading.proofs.Integers.{bits_integer}

@@ -1,4 +1,4 @@
-use Rattle.std.proofs.Common.{◌≡◌, map, ap, ◌∙◌}
+use Rattle.std.proofs.Common.{map, ap, ◌∙◌}
 use Rattle.text_queries.specs.Queries.{Sort}
 use Rattle.text_queries.specs.Views.{key_of}
 use Rattle.text_reading.proofs.StageForms.{ends_keys, sort_found, sort_is}

@@ -1,10 +1,10 @@
-use Rattle.std.proofs.Common.{◌≡◌, [], ◌∷◌, ◌++◌, sym, refl, ap, ◌∙◌, subst}
+use Rattle.std.proofs.Common.{sym, ap, ◌∙◌}
 use Rattle.std.specs.Prelude.{codes}
 use Rattle.std.proofs.lemmas.Result.{IfOk-weaker}
 use Rattle.text_queries.specs.Views.{stage_of}
 use Rattle.text_reading.specs.Reading.{EndsStage, Gives, IsShallowStage}
 use Rattle.text_reading.proofs.LeafForms.{reads_behind}
-use Rattle.text_reading.proofs.StageForms.{distinct_is, no_stage, stage_found, stage_some}
+use Rattle.text_reading.proofs.StageForms.{stage_found, stage_some}
 use Rattle.text_reading.proofs.stages.read_stage.Goals as goal
 use Rattle.text_tokens.specs.declared.token.Token.TheVariants as token
 

@@ -1,4 +1,4 @@
-use Rattle.std.proofs.Common.{◌≡◌, map, ap, ◌∙◌}
+use Rattle.std.proofs.Common.{map, ap, ◌∙◌}
 use Rattle.text_queries.specs.Queries.{With}
 use Rattle.text_queries.specs.Views.{item_of}
 use Rattle.text_reading.proofs.StageForms.{ends_items, with_found, with_is}
