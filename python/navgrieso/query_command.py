@@ -25,7 +25,8 @@ from .plans import MOST_BYTES, Table, encoded
 from .printing import aligned
 from .program import Reply, ask, find, settings
 from .query_kinds import typed_answer, without_rows
-from .stages import joined_table, stage_of, stages_of
+from .query_place import no_query
+from .stages import joined_table, stage_of, stages_of, table_named
 from .tables import csv_table
 
 ABOUT = """\
@@ -147,16 +148,12 @@ def _refusal(reply: Reply, document: dict[str, Any], plan_tool: str | None) -> N
     if reply.status == 2:
         if ask(["text"], b"", plan_tool).status == 2:
             return NotYet(
-                f"this program has no command `text` yet, which answers queries: {find(plan_tool)}"
+                f"this program has no command `text`, which answers queries: {find(plan_tool)}"
             )
         return BY_STATUS[2](f"the program refused its settings ({reply.line})")
-    query, tables = document["query"], ", ".join(document["names"])
+    query = document["query"]
     if reply.status == 3:
-        why = {
-            "BadQuery": f"this is no query, and `nav query --help` shows what one is: {query}",
-            "UnknownTable": f"the query names a table that isn't there: the tables are {tables}",
-        }.get(reply.line, f"the program found no document ({reply.line})")
-        return InvalidDocument(why, line=reply.line)
+        return InvalidDocument(_why_none(reply.line, document, plan_tool), line=reply.line)
     kind, told = BY_STATUS.get(reply.status, NavgriesoError), [reply.line]
     word, node, _ = reply.at_node()
     place = None if node is None else stage_of(query, node)
@@ -171,6 +168,17 @@ def _refusal(reply: Reply, document: dict[str, Any], plan_tool: str | None) -> N
                 else "  no column there is known"
             )
     return kind("\n".join(told), line=reply.line, node=node, names=names)
+
+
+def _why_none(line: str, document: dict[str, Any], plan_tool: str | None) -> str:
+    """Why a document holds no query that can be answered, by the line that the program wrote."""
+    if line == "BadQuery":
+        return no_query(document["query"], plan_tool)
+    if line == "UnknownTable":
+        named = (table_named(stage) for stage in stages_of(document["query"]))
+        missing = next(it for it in named if it is not None and it not in document["names"])
+        return f"there is no table {missing}: the tables are {', '.join(document['names'])}"
+    return f"the program found no document ({line})"
 
 
 def _columns_before(document: dict[str, Any], place: int, plan_tool: str | None) -> list[str]:

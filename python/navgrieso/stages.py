@@ -3,7 +3,9 @@ from __future__ import annotations
 
 import re
 
-JOIN = re.compile(r'join\s+\w+\s*(?:"((?:[^"]|"")*)"|(\w+))')
+NAME = r'\s*(?:"((?:[^"]|"")*)"|(\w+))'
+FROM = re.compile(r"from" + NAME)
+JOIN = re.compile(r"join\s+\w+" + NAME)
 # A name in quotes, a text in quotes, or what holds no quote and no bar.
 PIECE = re.compile(r'"[^"]*"?|\'[^\']*\'?|[^"\'|]+')
 
@@ -38,7 +40,15 @@ def stage_of(query: str, node: int) -> int | None:
 
 def joined_table(stage: str) -> str | None:
     """The table that a stage joins, if it is a join."""
-    found = JOIN.match(stage)
+    return _name(JOIN.match(stage))
+
+
+def table_named(stage: str) -> str | None:
+    """The table that a stage names, if it names one."""
+    return _name(FROM.match(stage) or JOIN.match(stage))
+
+
+def _name(found: re.Match[str] | None) -> str | None:
     if found is None:
         return None
     quoted, word = found.groups()

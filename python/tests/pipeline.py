@@ -1,19 +1,14 @@
-"""Queries of the pipeline language as frames of the client: what the program's command `text`
-should answer.
+"""Queries of the pipeline language as frames of the client: a second reading of what the program's
+command `text` answers.
 
-The grammar is read plainly, by descent. It stands in for the command in tests where the program
-hasn't got it yet, and beside it where it has.
+The grammar is read plainly, by descent.
 """
 from __future__ import annotations
 
-import json
 import re
-import subprocess
-import sys
 
 import navgrieso as nav
 from navgrieso import col, lit
-from navgrieso.program import find
 
 TOKEN = re.compile(
     r"""(?P<word>[a-z_][a-z_0-9]*)|(?P<digits>[0-9]+)"""
@@ -196,25 +191,3 @@ class Reader:
         made = nav.len() if word == "len" else getattr(self.expr(), FUNCTIONS[word])()
         self.want(")")
         return made
-
-
-def main() -> int:
-    """As the program would: `text` is answered here, and all else is handed on."""
-    words, given = sys.argv[1:], sys.stdin.buffer.read()
-    if words[:1] == ["text"]:
-        document = json.loads(given)
-        tables = {
-            name: nav.table({it[0]: it[2] for it in table}, {it[0]: it[1] for it in table})
-            for name, table in zip(document["names"], document["tables"])
-        }
-        try:
-            given = json.dumps(Reader(document["query"], tables).query().document()).encode()
-        except (NoReading, KeyError) as error:
-            print("BadQuery" if isinstance(error, NoReading) else "UnknownTable", file=sys.stderr)
-            return 3
-        words = ["run", *words[1:]]
-    return subprocess.run([find(), *words], input=given, check=False).returncode
-
-
-if __name__ == "__main__":
-    sys.exit(main())

@@ -10,7 +10,7 @@ import termios
 import unittest
 from fcntl import ioctl
 
-from navgrieso.program import ask, find
+from navgrieso.program import find
 
 TOP = os.path.join(os.path.dirname(os.path.abspath(__file__)), "..", "..")
 EXAMPLES = os.path.join(TOP, "examples")
@@ -19,11 +19,6 @@ CUSTOMERS = os.path.join(EXAMPLES, "customers.csv")
 ENVIRONMENT = {**os.environ, "PYTHONPATH": os.path.join(TOP, "python"), "PYTHONUTF8": "1"}
 # Without what is installed beside Python: the client needs nothing of it.
 NAV = [sys.executable, "-S", "-m", "navgrieso"]
-
-
-def has_text() -> bool:
-    """Whether the program answers queries itself."""
-    return ask(["text"], b"").status != 2
 
 
 class Command(unittest.TestCase):

@@ -1,23 +1,25 @@
 """`nav check` and `nav plan`, and what `nav` says by itself."""
 import os
 import shutil
+import stat
 import subprocess
 import unittest
 
 from navgrieso.program import find
 
-from .running import EXAMPLES, NAV, ORDERS, TOP, Command, has_text
+from .running import EXAMPLES, NAV, ORDERS, TOP, Command
 
 
 class Documents(Command):
     def example(self, name: str) -> str:
         return os.path.join(EXAMPLES, f"{name}.json")
 
-    def test_without_text(self) -> None:
-        if not has_text():
-            status, output, told = self.nav("from orders", ORDERS)
-            self.assertEqual((status, output), (1, ""))
-            self.assertRegex(told, r"\Anav: this program has no command `text` yet[^\n]*\n\Z")
+    def test_a_program_without_text(self) -> None:
+        path = self.file("plan_tool", "#!/bin/sh\necho Usage >&2\nexit 2\n")
+        os.chmod(path, stat.S_IRWXU)
+        status, output, told = self.nav("from orders", ORDERS, "--plan-tool", path)
+        self.assertEqual((status, output), (1, ""))
+        self.assertRegex(told, r"\Anav: this program has no command `text`[^\n]*\n\Z")
 
     def test_check(self) -> None:
         status, output, told = self.nav("check", self.example("totals"))

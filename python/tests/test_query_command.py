@@ -1,33 +1,20 @@
-"""`nav QUERY FILE..`, by a pipe and on a terminal, over the program's command `text` or what
-stands in for it."""
+"""`nav QUERY FILE..`, by a pipe and on a terminal."""
 import json
 import os
-import stat
 import subprocess
-import sys
 import unittest
 
-from navgrieso.program import ask, find
-from navgrieso.stages import joined_table, stage_of, stages_of
+from navgrieso.stages import joined_table, stage_of, stages_of, table_named
 
-from .running import CUSTOMERS, ENVIRONMENT, NAV, ORDERS, Command, has_text
+from .running import CUSTOMERS, NAV, ORDERS, Command
 
 QUERY = (
     "from orders | join inner customers on id | group name = name agg total = sum(amount) "
     "| sort total desc"
 )
-# The program's command `text` as far as tests need it.
-STAND_IN = '#!/bin/sh\nPLAN_TOOL="{}" exec "{}" -S -m tests.pipeline "$@"\n'
 
 
 class Query(Command):
-    def setUp(self) -> None:
-        super().setUp()
-        if not has_text():
-            path = self.file("plan_tool", STAND_IN.format(find(), sys.executable))
-            os.chmod(path, stat.S_IRWXU)
-            self.environment["PLAN_TOOL"] = path
-
     def test_a_pipe_gets_csv(self) -> None:
         self.assertEqual(
             self.nav(QUERY, ORDERS, CUSTOMERS), (0, "name,total\nAnn,80\nBo,20\n", "")
@@ -94,10 +81,16 @@ class Query(Command):
     def test_what_is_refused(self) -> None:
         status, output, told = self.nav("from orders | filter", ORDERS)
         self.assertEqual((status, output), (3, ""))
-        self.assertIn("this is no query", told)
+        self.assertIn("this is no query: it ends too early\n  from orders | filter\n", told)
+        status, _, told = self.nav("from orders | sort Amount", ORDERS)
+        self.assertEqual(status, 3)
+        self.assertIn("\n  from orders | sort Amount\n                     ^\n", told)
         status, _, told = self.nav("from nothing", ORDERS)
         self.assertEqual(status, 3)
-        self.assertIn("the tables are orders", told)
+        self.assertEqual(told, "nav: there is no table nothing: the tables are orders\n")
+        status, _, told = self.nav('from orders | join cross "no ne"', ORDERS, CUSTOMERS)
+        self.assertEqual(status, 3)
+        self.assertEqual(told, "nav: there is no table no ne: the tables are orders, customers\n")
         status, _, told = self.nav(QUERY.replace("sort total", "sort totals"), ORDERS, CUSTOMERS)
         self.assertEqual(status, 4)
         self.assertIn(
@@ -112,6 +105,11 @@ class Query(Command):
             told,
         )
         self.assertEqual(self.nav("from orders", ORDERS, "--workers", "0")[0], 2)
+
+    def test_newlines_at_the_ends_are_taken_off(self) -> None:
+        self.assertEqual(
+            self.nav(f"\n{QUERY}\n\n", ORDERS, CUSTOMERS), (0, "name,total\nAnn,80\nBo,20\n", "")
+        )
 
     def test_settings(self) -> None:
         words = ["--workers", "2", "--rows", "1", "--serial"]
@@ -144,8 +142,7 @@ class Query(Command):
 
 
 class Stages(unittest.TestCase):
-    """Queries as text: those that are read, by the program if it reads queries and else by the
-    stand-in, and which of their stages made a node."""
+    """Which stage of a query's text made a node of its plan."""
 
     def test_which_stage_made_a_node(self) -> None:
         query = """from "a|b" | filter x == '|''|' | join left "c|"" d" on k | sort "|" """
@@ -158,34 +155,9 @@ class Stages(unittest.TestCase):
             [joined_table(stage) for stage in stages_of(query)], [None, None, 'c|" d', None]
         )
         self.assertEqual(joined_table("join cross t"), "t")
-
-    def test_readings(self) -> None:
-        document = {"tables": [[["a", "int", [1, 2, 3]]]], "names": ["t"]}
-        for query, wanted in (
-            ("from t | filter a > 1", "a\n2\n3\n"),
-            (
-                "from t | select x = (a + 1) * 2, y = len() | sort x desc | slice 0 2",
-                "x,y\n8,3\n6,3\n",
-            ),
-            ("from t | select x = a - 1 - 1, y = a + 2 * -3", "x,y\n-1,-5\n0,-4\n1,-3\n"),
-            ("from t | filter a == 1 or a == 2 and a == 3", "a\n1\n"),
-            ("from t | filter", None),
-            ("from t | select a", None),
-            (" from t", None),
-            ("from t | filter a < 1 < 2", None),
-        ):
-            with self.subTest(query):
-                given = json.dumps({**document, "query": query}).encode()
-                if has_text():
-                    reply = ask(["text"], given)
-                    answer = reply.output.decode() if reply.status == 0 else None
-                else:
-                    words = [sys.executable, "-S", "-m", "tests.pipeline", "text"]
-                    ran = subprocess.run(
-                        words, input=given, capture_output=True, env=ENVIRONMENT, check=False
-                    )
-                    answer = ran.stdout.decode() if ran.returncode == 0 else None
-                self.assertEqual(answer, wanted)
+        self.assertEqual(table_named('from "a|b"'), "a|b")
+        self.assertEqual(table_named("join cross t"), "t")
+        self.assertIsNone(table_named("filter a"))
 
 
 if __name__ == "__main__":

@@ -1,14 +1,18 @@
 """The queries of README.md give the answers that stand there, and so does the SQL beside them, by
-SQLite."""
+SQLite; and so do the commands of this and of the repository's README.md."""
 import os
 import re
+import shlex
 import sqlite3
 import unittest
 
 from navgrieso.csv_text import rows_of, text_of
 
+from .running import EXAMPLES, ORDERS, Command
+
 TOP = os.path.join(os.path.dirname(os.path.abspath(__file__)), "..")
 SQL = re.compile(r"```sql\n(.*?)```\n", re.DOTALL)
+COMMAND = re.compile(r"^    (nav '.*?\.csv)\n", re.DOTALL | re.MULTILINE)
 PAIR = re.compile(r"```python\n(.*?)```\n```\n(.*?)```\n", re.DOTALL)
 
 
@@ -58,6 +62,25 @@ class Readme(unittest.TestCase):
                     for text in (text_of(found), answer)
                 )
                 self.assertEqual(given, wanted)
+
+
+class Commands(Command):
+    def test_commands(self) -> None:
+        for folder in ("", ".."):
+            with open(os.path.join(TOP, folder, "README.md"), encoding="utf-8") as file:
+                command = COMMAND.search(file.read())
+            _, query, *files = shlex.split(command[1])
+            self.assertEqual(
+                self.nav(query, *(os.path.join(EXAMPLES, os.path.basename(it)) for it in files)),
+                (0, "name,total\nAnn,80\nBo,20\n", ""),
+            )
+
+    def test_messages(self) -> None:
+        with open(os.path.join(TOP, "README.md"), encoding="utf-8") as file:
+            text = file.read()
+        for query in ("from orders | filter Amount > 15", "from orders | filter total > 15"):
+            told = self.nav(query, ORDERS)[2]
+            self.assertIn(f"```\n{told}```\n", text)
 
 
 if __name__ == "__main__":
