@@ -4,4 +4,6 @@
 #[cfg(test)]
 mod cutting;
 #[cfg(test)]
+mod planning;
+#[cfg(test)]
 mod printing;
