@@ -177,7 +177,7 @@ fn other_words_are_no_command(rt: HostRuntime) -> Result<(), Fail> {
 const COMMANDS: &str = "run --serial -> a/2/3
 run --rows 1 --workers 256 --partitions 3 --seed 7 -> a/2/3
 --version -> plan_tool 0.1.0
---help -> plan_tool answers queries: a document of tables and a plan on standard input, the table as CSV on standard output.//plan_tool run [--workers N] [--rows N] [--partitions N] [--seed N] [--serial]/plan_tool --help/plan_tool --version";
+--help -> plan_tool answers queries: a document of tables and a plan, or for `text` of tables, their names and a query, on standard input, the table as CSV on standard output.//plan_tool run [--workers N] [--rows N] [--partitions N] [--seed N] [--serial]/plan_tool text [--workers N] [--rows N] [--partitions N] [--seed N] [--serial]/plan_tool --help/plan_tool --version";
 
 #[test]
 fn options_change_no_answer_and_help_is_told(rt: HostRuntime) -> Result<(), Fail> {

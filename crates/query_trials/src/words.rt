@@ -16,18 +16,20 @@ fn command(alloc: Global, line: &str) -> Result<Option<Command>, AllocError> {
 
 // A command with how its query is run: workers, rows, partitions, seed, and whether it is run without workers.
 fn told(alloc: Global, command: Option<Command>) -> Result<String, AllocError> {
-    match command {
-        Some(Command::Run { options, serial }) => format!(in alloc;
-            "run {} {} {} {} {serial}",
-            options.workers(),
-            options.morsel_rows(),
-            options.partitions(),
-            options.seed()
-        ),
-        Some(Command::Help) => String::from_str(alloc, "help"),
-        Some(Command::Version) => String::from_str(alloc, "version"),
-        None => String::from_str(alloc, "none"),
-    }
+    let (name, options, serial) = match command {
+        Some(Command::Run { options, serial }) => ("run", options, serial),
+        Some(Command::Text { options, serial }) => ("text", options, serial),
+        Some(Command::Help) => return String::from_str(alloc, "help"),
+        Some(Command::Version) => return String::from_str(alloc, "version"),
+        None => return String::from_str(alloc, "none"),
+    };
+    format!(in alloc;
+        "{name} {} {} {} {} {serial}",
+        options.workers(),
+        options.morsel_rows(),
+        options.partitions(),
+        options.seed()
+    )
 }
 
 const COMMANDS: &str = "run -> run 4 100000 16 0 false
@@ -52,7 +54,18 @@ run --rows -> none
 run --partitions +5 -> none
 run --seed 18446744073709551616 -> none
 run --seed 1 --seed 1 -> none
-run --serial --serial -> none";
+run --serial --serial -> none
+text -> text 4 100000 16 0 false
+text --serial --workers 0004 -> text 4 100000 16 0 true
+text --partitions 1024 --rows 1048576 --workers 256 --seed 9 -> text 256 1048576 1024 9 false
+text text -> none
+text run -> none
+run text -> none
+text --optimize -> none
+text --workers 257 -> none
+text --seed 1 --seed 1 -> none
+--help text -> none
+texts -> none";
 
 #[test]
 fn words_are_commands(rt: HostRuntime) -> Result<(), Fail> {
