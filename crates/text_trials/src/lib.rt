@@ -1,7 +1,9 @@
-//! Trials of the pipeline language: texts with their tokens, texts that aren't cut into any, and queries with their texts.
+//! Trials of the pipeline language: texts with their tokens, queries with their texts, and texts that read as none.
 #![tactic(auto)]
 
 #[cfg(test)]
 mod cutting;
 #[cfg(test)]
 mod printing;
+#[cfg(test)]
+mod reading;
