@@ -1,5 +1,5 @@
-//! Trials of the pipeline language: texts with their tokens, texts that aren't cut into any, and queries with their texts and
-//! with the nodes of their plans.
+//! Trials of the pipeline language: texts with their tokens, queries with their texts and with the nodes of their plans, and
+//! texts that read as none.
 #![tactic(auto)]
 
 #[cfg(test)]
@@ -8,3 +8,5 @@ mod cutting;
 mod planning;
 #[cfg(test)]
 mod printing;
+#[cfg(test)]
+mod reading;
