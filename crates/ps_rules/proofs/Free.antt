@@ -1,11 +1,12 @@
 -- The least free number, and names that are no temporary ones.
-use Rattle.std.proofs.Common.{◌≡◌, ◌≢◌, ◌⊎◌, inl, inr, ℕ, zero, suc, ◌+◌, ◌^◌, ◌≤◌, ◌<◌, Bool, true, false, cond, List, [], ◌∷◌, ◌++◌, length, refl, sym, ap, subst, ◌∙◌, arith}
+use Rattle.std.proofs.Common.{◌≡◌, ◌≢◌, ◌⊎◌, inl, inr, ℕ, zero, suc, ◌+◌, ◌^◌, ◌≤◌, ◌<◌, Bool, true, false, cond, List, [], ◌∷◌, ◌++◌, length, refl, sym, ap, ◌∙◌, arith}
 use Rattle.std.specs.Prelude.{codes, decimal, ◌||◌, ◌==◌}
 use Rattle.std.specs.Str.Parse.{digits_value}
 use Rattle.std.proofs.lemmas.Bool.{eq-eqb, eqb-true}
 use Rattle.std.proofs.lemmas.Fmt.{decimal_injective, decimal_is_IsNumeral}
 use Rattle.std.proofs.lemmas.List.{append_cancel_left}
-use Rattle.ps_rules.specs.Names.{IsTemporary, Names, after_fresh, free_number, fresh_number, is_taken, temporary}
+use Rattle.ps_meaning.specs.Steps.{Name}
+use Rattle.ps_rules.specs.Names.{IsKnown, IsTemporary, Names, after_fresh, free_number, fresh_name, fresh_number, is_taken, temporary}
 
 or_true : (a b : Bool) → a ≡ true → (a || b) ≡ true
 or_true a b e = ap (λ c. c || b) e
@@ -121,3 +122,20 @@ written_so rest k t =
     let e : rest ≡ decimal k = append_cancel_left (codes "__POLARS_STMP_") rest (decimal k) t.1 in
     let v : k ≡ digits_value 10 rest = sym (decimal_is_IsNumeral k t.0).1 ∙ ap (digits_value 10) (sym e) in
     (v, e ∙ ap decimal v)
+
+-- where the counter stays in 64 bits, the fresh name wasn't known
+pub fresh_unknown : (names : Names) → (after_fresh names).next ≤ 2 ^ 64 → ¬ IsKnown names (fresh_name names)
+fresh_unknown names small known =
+    let from = free_from (length names.taken) names.taken names.next in
+    let free = fresh_free names in
+    elim (known (fresh_number names) (omega arith, refl)) [ inl lt ↦ absurd (omega arith) | inr is ↦ (let w : true ≡ false = sym is ∙ free in cc) ]
+
+-- and is known then
+pub fresh_known : (names : Names) → (after_fresh names).next ≤ 2 ^ 64 → IsKnown (after_fresh names) (fresh_name names)
+fresh_known names small k t = let e : fresh_number names ≡ k = temporary_once (fresh_number names) k (omega arith) t.0 t.1 in inl (omega arith)
+
+-- what was known still is
+pub still_known : (names : Names) (n : Name) → IsKnown names n → IsKnown (after_fresh names) n
+still_known names n known k t =
+    let le = free_from (length names.taken) names.taken names.next in
+    elim (known k t) [ inl lt ↦ inl (omega arith) | inr is ↦ inr is ]

@@ -25,7 +25,8 @@ use Rattle.ps_shares.specs.Kept.{AreKnown}
 use Rattle.ps_rules.specs.Rules.{aggregated, apart_from_input, first_tree, over_input, over_operands, reduced_apart, reduced_column, reduced_over, stays, stays_or, together}
 use Rattle.ps_rules.specs.Slots.{State, Stream, after_name, after_names, columns_named, new_name, new_names}
 use Rattle.ps_shares.proofs.FlatLength.{both_hold}
-use Rattle.ps_shares.proofs.Fresh.{Grown, fresh_is, fresh_stands, grown_fresh, grown_names}
+use Rattle.ps_rules.proofs.Free.{fresh_known, fresh_unknown}
+use Rattle.ps_shares.proofs.Fresh.{Grown, grown_fresh, grown_names}
 use Rattle.ps_shares.proofs.Growing.{AllGrow, binary_of, cast_of, filtered_after, finished_names, gathered_exprs, gathered_names, grow_all, grows, grows_each, grows_finished, grows_together, grows_under, sorted_after, ternary_of}
 use Rattle.ps_shares.proofs.Leaves.{append_assoc, put_none}
 use Rattle.ps_shares.proofs.Named.{at_all}
@@ -161,9 +162,9 @@ module _ (B : Name → Type 0) where
       record {
         ms = (fresh_name a, e) ∷ [];
         back = ap (λ b. cond b e (Tree.column (fresh_name a)) ∷ []) ((bytes_decides (fresh_name a) (fresh_name a)).1 refl);
-        fresh = ((fresh_is a small, fresh_stands a small), tt);
+        fresh = ((fresh_unknown a small, fresh_known a small), tt);
         elementwise = (refl, tt);
-        read = (inr (fresh_is a small, fresh_stands a small), tt);
+        read = (inr (fresh_unknown a small, fresh_known a small), tt);
       }
 
   column_after : (a b : Names) (e : Tree) → Grown (after_fresh a) b → b.next ≤ 2 ^ 64 → Done B a b (e ∷ []) (Tree.column (fresh_name a) ∷ [])

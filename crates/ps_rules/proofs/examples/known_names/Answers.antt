@@ -1,5 +1,5 @@
-use Rattle.std.proofs.Common.{◌≡◌, ◌^◌, ◌<◌, true, false, [], ◌∷◌, inl, inr, refl, arith, lit<}
-use Rattle.std.specs.Prelude.{codes, decimal}
+use Rattle.std.proofs.Common.{◌≡◌, true, false, inl, inr, refl, arith, lit<}
+use Rattle.std.specs.Prelude.{codes}
 use Rattle.std.specs.Fmt.{digits}
 use Rattle.ps_rules.specs.Names.{temporary}
 use Rattle.ps_rules.proofs.Free.{temporary_once}
