@@ -1,5 +1,5 @@
 -- Names only grow.
-use Rattle.std.proofs.Common.{ℕ, ◌≤◌, List, [], ◌∷◌, length, arith}
+use Rattle.std.proofs.Common.{◌≤◌, List, [], ◌∷◌, length, arith}
 use Rattle.ps_meaning.specs.Steps.{Name}
 use Rattle.ps_rules.specs.Names.{IsKnown, Names, after_fresh}
 use Rattle.ps_rules.specs.Slots.{State, after_name, after_names}
