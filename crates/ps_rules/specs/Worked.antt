@@ -1,5 +1,5 @@
 -- Worked calls over a source of two columns.
-use Rattle.std.specs.Prelude.{ℕ, true, false, List, [], ◌∷◌, ◌++◌, map, length, None, codes, pos}
+use Rattle.std.specs.Prelude.{ℕ, true, false, List, [], ◌∷◌, ◌++◌, None, codes, pos}
 use Rattle.ps_frame.specs.Tables.{Fields}
 use Rattle.ps_frame.specs.Trees.{Aggregation, Tree, Trees}
 use Rattle.ps_frame.specs.declared.expr.FunctionExpr.TheVariants as fun
@@ -11,7 +11,7 @@ use Rattle.ps_meaning.specs.Shape.{PhysicalKind, PhysicalNode, filter_node, in_m
 use Rattle.ps_meaning.specs.Steps.{Name, Named, select, sort}
 use Rattle.ps_rules.specs.Calls.{Answer}
 use Rattle.ps_rules.specs.Lowered.{lower_exprs, select_stream}
-use Rattle.ps_rules.specs.Names.{temporary}
+use Rattle.ps_rules.specs.Names.{Names, temporary}
 use Rattle.ps_rules.specs.Slots.{Made, State}
 
 abbrev pub a_name : Name
@@ -46,13 +46,17 @@ ab_fields = (a_name, kind.Int64) ∷ (b_name, kind.Int64) ∷ []
 abbrev pub source : PhysicalNode
 source = record { kind = in_memory_source (record { schema = ab_fields; rows = [] }); schema = ab_fields; origin = 0; inputs = [] }
 
--- the source alone, where these names are in use
-abbrev pub before : List Name → State
-before used = record { nodes = source ∷ []; names = record { used = used; next = 0 } }
+-- names where those of these numbers are in use, and the counter is at a number
+abbrev pub counter : List ℕ → ℕ → Names
+counter taken next = record { taken = taken; next = next }
 
--- calls for node 1, where the names of the source's columns are in use
+-- the source alone, where the names of these numbers are in use
+abbrev pub before : List ℕ → State
+before taken = record { nodes = source ∷ []; names = counter taken 0 }
+
+-- calls for node 1, where no name of the source's columns is one that a counter gives
 abbrev pub start : State
-start = before (a_name ∷ b_name ∷ [])
+start = before []
 
 abbrev pub answer : List Tree → Answer
 answer es = lower_exprs 1 (0, 0) es start
@@ -70,9 +74,9 @@ over_none kind schema = record { kind = kind; schema = schema; origin = 1; input
 abbrev pub over_two : PhysicalKind → Fields → ℕ → ℕ → PhysicalNode
 over_two kind schema left right = record { kind = kind; schema = schema; origin = 1; inputs = (left, 0) ∷ (right, 0) ∷ [] }
 
--- what stands after a call: the source, the nodes that it made, and as many fresh names as there are numbers
-abbrev pub after : List PhysicalNode → List ℕ → State
-after nodes numbers = record { nodes = source ∷ nodes; names = record { used = a_name ∷ b_name ∷ map temporary numbers; next = length numbers } }
+-- what stands after a call: the source, the nodes that it made, and how many fresh names it took
+abbrev pub after : List PhysicalNode → ℕ → State
+after nodes fresh = record { nodes = source ∷ nodes; names = counter [] fresh }
 
 -- a fresh name with the kind of its column
 abbrev pub field : ℕ → DataType → Name × DataType
@@ -85,7 +89,7 @@ sum_node = over_node (reduce ((temporary 0, sum_of col_a) ∷ [])) (field 0 kind
 abbrev pub sum_beside_b : Answer
 sum_beside_b =
     record {
-      state = after (sum_node ∷ over_two (zip_node false) (ab_fields ++ field 0 kind.Int64 ∷ []) 0 1 ∷ []) (0 ∷ []);
+      state = after (sum_node ∷ over_two (zip_node false) (ab_fields ++ field 0 kind.Int64 ∷ []) 0 1 ∷ []) 1;
       stream = (2, 0);
       exprs = column_of 0 ∷ col_b ∷ [];
     }
@@ -94,7 +98,7 @@ sum_beside_b =
 abbrev pub two_sums : Answer
 two_sums =
     record {
-      state = after (over_node (reduce ((temporary 0, sum_of col_a) ∷ (temporary 1, Tree.len) ∷ [])) (field 0 kind.Int64 ∷ field 1 kind.IdxSize ∷ []) 0 ∷ []) (0 ∷ 1 ∷ []);
+      state = after (over_node (reduce ((temporary 0, sum_of col_a) ∷ (temporary 1, Tree.len) ∷ [])) (field 0 kind.Int64 ∷ field 1 kind.IdxSize ∷ []) 0 ∷ []) 2;
       stream = (1, 0);
       exprs = column_of 0 ∷ column_of 1 ∷ [];
     }
@@ -103,7 +107,7 @@ two_sums =
 abbrev pub two_literals : Answer
 two_literals =
     record {
-      state = after (over_none (independent_select ((temporary 0, int 1) ∷ (temporary 1, int 2) ∷ [])) (field 0 kind.Int64 ∷ field 1 kind.Int64 ∷ []) ∷ []) (0 ∷ 1 ∷ []);
+      state = after (over_none (independent_select ((temporary 0, int 1) ∷ (temporary 1, int 2) ∷ [])) (field 0 kind.Int64 ∷ field 1 kind.Int64 ∷ []) ∷ []) 2;
       stream = (1, 0);
       exprs = column_of 0 ∷ column_of 1 ∷ [];
     }
@@ -115,7 +119,7 @@ b_and_sum = Tree.binary op.Plus col_b (sum_of col_a)
 abbrev pub operands_together : Answer
 operands_together =
     record {
-      state = after (sum_node ∷ over_two (zip_node false) (ab_fields ++ field 0 kind.Int64 ∷ []) 0 1 ∷ []) (0 ∷ []);
+      state = after (sum_node ∷ over_two (zip_node false) (ab_fields ++ field 0 kind.Int64 ∷ []) 0 1 ∷ []) 1;
       stream = (2, 0);
       exprs = Tree.binary op.Plus col_b (column_of 0) ∷ [];
     }
@@ -127,7 +131,7 @@ reversed_b = Tree.function fun.Reverse col_b
 abbrev pub mapped_alone : Answer
 mapped_alone =
     record {
-      state = after (over_node (simple_projection (b_name ∷ [])) ((b_name, kind.Int64) ∷ []) 0 ∷ over_node (in_memory_map (select ((temporary 0, reversed_b) ∷ []))) (field 0 kind.Int64 ∷ []) 1 ∷ []) (0 ∷ []);
+      state = after (over_node (simple_projection (b_name ∷ [])) ((b_name, kind.Int64) ∷ []) 0 ∷ over_node (in_memory_map (select ((temporary 0, reversed_b) ∷ []))) (field 0 kind.Int64 ∷ []) 1 ∷ []) 1;
       stream = (2, 0);
       exprs = column_of 0 ∷ [];
     }
@@ -139,7 +143,7 @@ filtered_b =
       state = after (
           over_node (select_node ((temporary 0, col_b) ∷ (temporary 1, a_above_one) ∷ []) false) (field 0 kind.Int64 ∷ field 1 kind.Boolean ∷ []) 0
           ∷ over_node (filter_node (column_of 1)) (field 0 kind.Int64 ∷ field 1 kind.Boolean ∷ []) 1 ∷ []
-          ) (0 ∷ 1 ∷ []);
+          ) 2;
       stream = (2, 0);
       exprs = column_of 0 ∷ [];
     }
@@ -155,7 +159,7 @@ sorted_by_a =
           over_node (select_node ((temporary 0, col_b) ∷ (temporary 1, col_a) ∷ []) false) (field 0 kind.Int64 ∷ field 1 kind.Int64 ∷ []) 0
           ∷ over_node (in_memory_map (sort (record { keys = column_of 1 ∷ []; descending = true ∷ []; nulls_last = false ∷ []; cut = None }))) (field 0 kind.Int64 ∷ field 1 kind.Int64 ∷ []) 1
           ∷ over_node (simple_projection (temporary 0 ∷ [])) (field 0 kind.Int64 ∷ []) 2 ∷ []
-          ) (0 ∷ 1 ∷ []);
+          ) 2;
       stream = (3, 0);
       exprs = column_of 0 ∷ [];
     }
@@ -164,19 +168,19 @@ sorted_by_a =
 abbrev pub sum_of_sum : Answer
 sum_of_sum =
     record {
-      state = after (sum_node ∷ over_node (reduce ((temporary 1, sum_of (column_of 0)) ∷ [])) (field 1 kind.Int64 ∷ []) 1 ∷ []) (0 ∷ 1 ∷ []);
+      state = after (sum_node ∷ over_node (reduce ((temporary 1, sum_of (column_of 0)) ∷ [])) (field 1 kind.Int64 ∷ []) 1 ∷ []) 2;
       stream = (2, 0);
       exprs = column_of 1 ∷ [];
     }
 
 -- the select of a literal under a name
 abbrev pub literal_selected : Made
-literal_selected = record { state = after (over_none (independent_select ((codes "x", int 1) ∷ [])) ((codes "x", kind.Int64) ∷ []) ∷ []) []; stream = (1, 0) }
+literal_selected = record { state = after (over_none (independent_select ((codes "x", int 1) ∷ [])) ((codes "x", kind.Int64) ∷ []) ∷ []) 0; stream = (1, 0) }
 
 -- the select of columns under their own names
 abbrev pub b_selected : Made
-b_selected = record { state = after (over_node (simple_projection (b_name ∷ [])) ((b_name, kind.Int64) ∷ []) 0 ∷ []) []; stream = (1, 0) }
+b_selected = record { state = after (over_node (simple_projection (b_name ∷ [])) ((b_name, kind.Int64) ∷ []) 0 ∷ []) 0; stream = (1, 0) }
 
 -- the select of a column under another name
 abbrev pub b_renamed : Made
-b_renamed = record { state = after (over_node (select_node ((codes "x", col_b) ∷ []) false) ((codes "x", kind.Int64) ∷ []) 0 ∷ []) []; stream = (1, 0) }
+b_renamed = record { state = after (over_node (select_node ((codes "x", col_b) ∷ []) false) ((codes "x", kind.Int64) ∷ []) 0 ∷ []) 0; stream = (1, 0) }

@@ -333,14 +333,14 @@ module _ (at : ℕ) (input : Stream) where
       let os = map (as_operand at input) es in
       let k = answers_made os (all_add es) s ready.ordered (slice_get_within s.nodes input.0 ready.node ready.there) in
       let g = grows_finished at input s.names (together at input os s) (grows_together at input os (all_grow es) s) in
-      record { more = k.0.0.0; nodes = k.0.0.1; ordered = k.0.1; used = g.0 }
+      record { more = k.0.0.0; nodes = k.0.0.1; ordered = k.0.1; known = g.0 }
 
   selects_add : (s : State) (es : List Named) → IsReady s input (exprs_of es) → IsGrown s (select_stream at input es s).state
   selects_add s es ready =
       let items = map (λ (e : Named). (e.0, as_operand at input e.1)) es in
       let k = selected_made items (items_add es) s ready.ordered (slice_get_within s.nodes input.0 ready.node ready.there) in
       let g = grows_selected at input items (items_grow es) s in
-      record { more = k.0.0.0; nodes = k.0.0.1; ordered = k.0.1; used = g.0 }
+      record { more = k.0.0.0; nodes = k.0.0.1; ordered = k.0.1; known = g.0 }
 
 pub calls_add : CallsAdd
 calls_add = record { exprs = exprs_add; selects = selects_add }

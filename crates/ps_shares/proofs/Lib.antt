@@ -25,3 +25,4 @@ mod ZipCauses
 mod StreamEnds
 mod SelectShares
 mod InputShares
+mod ZipReach

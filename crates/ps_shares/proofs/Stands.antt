@@ -19,12 +19,14 @@ use Rattle.ps_rules.specs.Bundles.{finished, gathered, is_stream_alone}
 use Rattle.ps_rules.specs.Calls.{Bundle, Call, Operand, all_independent, each, exprs_of_all, given_reduction, left_to_map, new_call}
 use Rattle.ps_shares.specs.Leaves.{AllReadAll, AtLeaves, ReadsAll, put_back, stands_for}
 use Rattle.ps_rules.specs.Lowered.{as_operand, lower, lower_exprs, operands}
-use Rattle.ps_rules.specs.Names.{Names, after_fresh, fresh_name}
+use Rattle.ps_rules.specs.Names.{IsKnown, Names, after_fresh, fresh_name}
 use Rattle.ps_shares.specs.CallLaws.{StandForAsked}
+use Rattle.ps_shares.specs.Kept.{AreKnown}
 use Rattle.ps_rules.specs.Rules.{aggregated, apart_from_input, first_tree, over_input, over_operands, reduced_apart, reduced_column, reduced_over, stays, stays_or, together}
 use Rattle.ps_rules.specs.Slots.{State, Stream, after_name, after_names, columns_named, new_name, new_names}
 use Rattle.ps_shares.proofs.FlatLength.{both_hold}
-use Rattle.ps_shares.proofs.Fresh.{Grown, fresh_is, fresh_stands, grown_fresh, grown_names}
+use Rattle.ps_rules.proofs.Free.{fresh_known, fresh_unknown}
+use Rattle.ps_shares.proofs.Fresh.{Grown, grown_fresh, grown_names}
 use Rattle.ps_shares.proofs.Growing.{AllGrow, binary_of, cast_of, filtered_after, finished_names, gathered_exprs, gathered_names, grow_all, grows, grows_each, grows_finished, grows_together, grows_under, sorted_after, ternary_of}
 use Rattle.ps_shares.proofs.Leaves.{append_assoc, put_none}
 use Rattle.ps_shares.proofs.Named.{at_all}
@@ -80,17 +82,17 @@ map_two : (f : Tree → Tree) (xs ys : List Tree) → map f (xs ++ ys) ≡ map f
 map_two f [] ys = refl
 map_two f (x ∷ xs) ys = ap (λ zs. f x ∷ zs) (map_two f xs ys)
 
--- names that came into use between two states
+-- names that came to be known between two states
 abbrev Fresh : Names → Names → Name → Type 0
-Fresh a b n = (is_among n a.used ≡ false) × (is_among n b.used ≡ true)
+Fresh a b n = (¬ IsKnown a n) × IsKnown b n
 
-outside : (ms : List Named) (n : Name) (a b : Names) → AllByRecursion (λ (m : Named). Fresh a b m.0) ms → (is_among n a.used ≡ true) ⊎ (is_among n b.used ≡ false) → Outside ms n
+outside : (ms : List Named) (n : Name) (a b : Names) → AllByRecursion (λ (m : Named). Fresh a b m.0) ms → IsKnown a n ⊎ (¬ IsKnown b n) → Outside ms n
 outside ms n a b all h = all_weaker (λ (m : Named). Fresh a b m.0) (λ (m : Named). bytes_eq m.0 n ≡ false) (λ m f. by m f (bytes_eq m.0 n) refl h) ms all
   where
-    by : (m : Named) → Fresh a b m.0 → (t : Bool) → bytes_eq m.0 n ≡ t → (is_among n a.used ≡ true) ⊎ (is_among n b.used ≡ false) → bytes_eq m.0 n ≡ false
+    by : (m : Named) → Fresh a b m.0 → (t : Bool) → bytes_eq m.0 n ≡ t → IsKnown a n ⊎ (¬ IsKnown b n) → bytes_eq m.0 n ≡ false
     by m f false q h = q
-    by m f true q (inl h) = let w : true ≡ false = sym h ∙ ap (λ n. is_among n a.used) (sym ((bytes_decides m.0 n).0 q)) ∙ f.0 in cc
-    by m f true q (inr h) = let w : true ≡ false = sym f.1 ∙ ap (λ n. is_among n b.used) ((bytes_decides m.0 n).0 q) ∙ h in cc
+    by m f true q (inl h) = absurd (f.0 (subst (λ n. IsKnown a n) (sym ((bytes_decides m.0 n).0 q)) h))
+    by m f true q (inr h) = absurd (h (subst (λ n. IsKnown b n) ((bytes_decides m.0 n).0 q) f.1))
 
 -- What stands for expressions, where the names went from the first to the second: it reads names that were known before all, and names that are new.
 record Done (B : Name → Type 0) (a b : Names) (es news : List Tree) : Type 0 where
@@ -105,7 +107,7 @@ module _ (B : Name → Type 0) where
   Read a b n = B n ⊎ Fresh a b n
 
   abbrev HasAll : Names → Type 0
-  HasAll a = (n : Name) → B n → is_among n a.used ≡ true
+  HasAll a = (n : Name) → B n → IsKnown a n
 
   has_more : (a b : Names) → Grown a b → HasAll a → HasAll b
   has_more a b g h n k = g.0 n (h n k)
@@ -114,11 +116,7 @@ module _ (B : Name → Type 0) where
   fresh_later a b c g n f = (f.0, g.0 n f.1)
 
   fresh_before : (a b c : Names) → Grown a b → (n : Name) → Fresh b c n → Fresh a c n
-  fresh_before a b c g n f = (by (is_among n a.used) refl, f.1)
-    where
-      by : (t : Bool) → is_among n a.used ≡ t → is_among n a.used ≡ false
-      by false q = q
-      by true q = let w : true ≡ false = sym (g.0 n q) ∙ f.0 in cc
+  fresh_before a b c g n f = ((λ k. f.0 (g.0 n k)), f.1)
 
   read_by : (a b c d : Names) → ((n : Name) → Fresh a b n → Fresh c d n) → (n : Name) → Read a b n → Read c d n
   read_by a b c d f n (inl h) = inl h
@@ -164,9 +162,9 @@ module _ (B : Name → Type 0) where
       record {
         ms = (fresh_name a, e) ∷ [];
         back = ap (λ b. cond b e (Tree.column (fresh_name a)) ∷ []) ((bytes_decides (fresh_name a) (fresh_name a)).1 refl);
-        fresh = ((fresh_is a small, fresh_stands a), tt);
+        fresh = ((fresh_unknown a small, fresh_known a small), tt);
         elementwise = (refl, tt);
-        read = (inr (fresh_is a small, fresh_stands a), tt);
+        read = (inr (fresh_unknown a small, fresh_known a small), tt);
       }
 
   column_after : (a b : Names) (e : Tree) → Grown (after_fresh a) b → b.next ≤ 2 ^ 64 → Done B a b (e ∷ []) (Tree.column (fresh_name a) ∷ [])
@@ -466,17 +464,17 @@ module _ (s : Fields) where
   list_typed [] h = tt
   list_typed (e ∷ es) h = let p = both_hold (is_some (kind_over s e)) (list_all (λ e. is_some (kind_over s e)) es) h in (typed_reads e p.0, list_typed es p.1)
 
-among_known : (n : Name) (ns used : List Name) → AllByRecursion (λ m. IsTrue (is_among m used)) ns → is_among n ns ≡ true → is_among n used ≡ true
-among_known n [] used all h = cc
-among_known n (m ∷ ns) used all h = by (bytes_eq n m) refl h (among_known n ns used all.1)
+among_known : (n : Name) (ns : List Name) (names : Names) → AreKnown names ns → is_among n ns ≡ true → IsKnown names n
+among_known n [] names all h = cc
+among_known n (m ∷ ns) names all h = by (bytes_eq n m) refl h (among_known n ns names all.1)
   where
-    by : (b : Bool) → bytes_eq n m ≡ b → (bytes_eq n m || is_among n ns) ≡ true → (is_among n ns ≡ true → is_among n used ≡ true) → is_among n used ≡ true
-    by true q h rest = ap (λ n. is_among n used) ((bytes_decides n m).0 q) ∙ all.0
+    by : (b : Bool) → bytes_eq n m ≡ b → (bytes_eq n m || is_among n ns) ≡ true → (is_among n ns ≡ true → IsKnown names n) → IsKnown names n
+    by true q h rest = subst (λ n. IsKnown names n) (sym ((bytes_decides n m).0 q)) all.0
     by false q h rest = rest (sym (ap (λ b. b || is_among n ns) q) ∙ h)
 
 pub stand_for_asked : StandForAsked
 stand_for_asked at input s es ready small =
     let schema = ready.node.schema in
     let d = all_done (HasKind schema) at input s es (list_typed schema es ready.typed)
-    (λ n h. among_known n (names_of schema) s.names.used ready.known (named_as n schema ∙ sym (kind_as n schema) ∙ h)) small in
+    (λ n h. among_known n (names_of schema) s.names ready.known (named_as n schema ∙ sym (kind_as n schema) ∙ h)) small in
     (d.elementwise, (d.ms, d.back, d.fresh))

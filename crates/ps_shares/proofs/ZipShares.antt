@@ -102,16 +102,16 @@ none_ended [] all h = refl
 none_ended (s ∷ hs) all h = none_step s hs (share_under s all.0) h (none_ended hs all.1)
 
 -- the least length is at most that of what is known
-abbrev AtLeast : ℕ → List Extent → Type 0
+abbrev pub AtLeast : ℕ → List Extent → Type 0
 AtLeast b es = AllByRecursion (λ m. b ≤ m) (moving es)
 
-abbrev moving_as : Bool → Extent → List Extent → List ℕ
+abbrev pub moving_as : Bool → Extent → List Extent → List ℕ
 moving_as t e es = map (λ (e : Extent). e.len) (cond (not t) (e ∷ filter (λ e. not (broadcasts false e)) es) (filter (λ e. not (broadcasts false e)) es))
 
-moving_cons : (e : Extent) (es : List Extent) (t : Bool) → broadcasts false e ≡ t → moving (e ∷ es) ≡ moving_as t e es
+pub moving_cons : (e : Extent) (es : List Extent) (t : Bool) → broadcasts false e ≡ t → moving (e ∷ es) ≡ moving_as t e es
 moving_cons e es t h = ap (λ t. moving_as t e es) h
 
-first_of : (b : ℕ) (e : Extent) (es : List Extent) (t : Bool) → broadcasts false e ≡ t → AtLeast b (e ∷ es) → (t ≡ false → b ≤ e.len) × AtLeast b es
+pub first_of : (b : ℕ) (e : Extent) (es : List Extent) (t : Bool) → broadcasts false e ≡ t → AtLeast b (e ∷ es) → (t ≡ false → b ≤ e.len) × AtLeast b es
 first_of b e es true h all = ((λ f. cc), subst (λ ms. AllByRecursion (λ m. b ≤ m) ms) (moving_cons e es true h) all)
 first_of b e es false h all = let k = subst (λ ms. AllByRecursion (λ m. b ≤ m) ms) (moving_cons e es false h) all in ((λ f. k.0), k.1)
 
@@ -119,7 +119,7 @@ onto : (b : ℕ) (e : Extent) (es : List Extent) (t : Bool) → broadcasts false
 onto b e es true h le all = subst (λ ms. AllByRecursion (λ m. b ≤ m) ms) (sym (moving_cons e es true h)) all
 onto b e es false h le all = subst (λ ms. AllByRecursion (λ m. b ≤ m) ms) (sym (moving_cons e es false h)) (le refl, all)
 
-ended_moves : (e : Extent) → e.ended ≡ true → broadcasts false e ≡ false
+pub ended_moves : (e : Extent) → e.ended ≡ true → broadcasts false e ≡ false
 ended_moves e h = ap (λ b. not b && (e.len == 1)) h
 
 known_step : (b : ℕ) (s : Share) (hs : List Share) → UnderExtent (given_extent s) (known_extent s) → AtLeast b (map given_extent (s ∷ hs)) → (AtLeast b (map given_extent hs) → AtLeast b (map known_extent hs)) → AtLeast b (map known_extent (s ∷ hs))
@@ -173,7 +173,7 @@ some_ended hs all h =
     let l = least_all b 1 (moving (map given_extent hs)) (omega arith) in
     least_least b (moving (map known_extent hs)) (known_at_least b hs all l) (λ none. at_most_one b hs all l none h)
 
-at_most : (hs : List Share) → AllByRecursion IsShare hs → (t : Bool) → any (map given_extent hs) ≡ t → zip_length false (map given_extent hs) ≤ zip_length false (map known_extent hs)
+pub at_most : (hs : List Share) → AllByRecursion IsShare hs → (t : Bool) → any (map given_extent hs) ≡ t → zip_length false (map given_extent hs) ≤ zip_length false (map known_extent hs)
 at_most hs all true h = some_ended hs all h
 at_most hs all false h = let e = ap (zip_length false) (none_ended hs all h) in omega arith
 
@@ -269,16 +269,16 @@ inside_of i b (h ∷ hs) lt all =
     ((λ e. let le = f.0 e in omega arith), inside_of i b hs lt f.1)
 
 module _ (at : ℕ) (s : Fields) (hs : List Share) (all : AllByRecursion IsShare hs) where
-  abbrev inputs : List Column
+  abbrev pub inputs : List Column
   inputs = all_columns (tables_of hs)
 
-  abbrev n : ℕ
+  abbrev pub n : ℕ
   n = zip_length false (extents inputs)
 
-  given_length : n ≡ zip_length false (map given_extent hs)
+  pub given_length : n ≡ zip_length false (map given_extent hs)
   given_length = given_once ℕ (zip_length false) flat_length [] hs all
 
-  known_length : zip_length false (extents (columns_shown hs)) ≡ zip_length false (map known_extent hs)
+  pub known_length : zip_length false (extents (columns_shown hs)) ≡ zip_length false (map known_extent hs)
   known_length = known_once ℕ (zip_length false) flat_length [] hs
 
   pub given_ends : ends (extents inputs) ≡ ends (map given_extent hs)
@@ -290,7 +290,7 @@ module _ (at : ℕ) (s : Fields) (hs : List Share) (all : AllByRecursion IsShare
   rows_are : (mild_zip at inputs).rows ≡ map (λ i. values_in_row i inputs) (below n)
   rows_are = clear_zip_rows at inputs (tables_clear hs)
 
-  row_count : length (mild_zip at inputs).rows ≡ n
+  pub row_count : length (mild_zip at inputs).rows ≡ n
   row_count = ap length rows_are ∙ length-map (below n) (λ i. values_in_row i inputs) ∙ length_below n
 
   whole_zip : (t : Bool) → any (map given_extent hs) ≡ t → (mild_zip at inputs).broken ≡ [] → (ends_early false (columns_shown hs) ≡ false) × (length (mild_zip at inputs).rows ≡ zip_length false (extents (columns_shown hs)))

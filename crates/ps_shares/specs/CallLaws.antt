@@ -21,6 +21,7 @@ use Rattle.ps_meaning.specs.Steps.{Name, Named, exprs_of, project, select, filte
 use Rattle.ps_shares.specs.Kept.{HasNoOther, IsGrown, IsPartOf, IsReady, IsZipWithin, all_causes}
 use Rattle.ps_shares.specs.Leaves.{AreLeavesWithin, AtLeaves, Naming, all_leaves, eval_with, put_back, stands_for}
 use Rattle.ps_rules.specs.Lowered.{lower_exprs, select_stream}
+use Rattle.ps_rules.specs.Names.{IsKnown}
 use Rattle.ps_shares.specs.Shares.{IsShare, Share, Shows, columns_shown, tables_of}
 use Rattle.ps_rules.specs.Slots.{State, Stream, columns_named, under}
 
@@ -82,13 +83,13 @@ CallsKeepCauses =
     AreRead z (columns_shown hs) (λ n. eval at input (stands_for ms n)) es → HasNoOther z.broken (all_causes (zipped false at (columns_at at (map (put_back ms) es) input)))
     → IsZipWithin (zipped false at (columns_at at es z)) (zipped false at (columns_at at (map (put_back ms) es) input))
 
--- What a call answers is elementwise, and with what its fresh names stand for put back it is what was asked. Those names weren't in use, and are then. The counter stays in 64 bits: past that two numbers may have one name.
+-- What a call answers is elementwise, and with what its fresh names stand for put back it is what was asked. Those names weren't known, and are then. The counter stays in 64 bits: past that two numbers may have one name.
 abbrev pub StandForAsked : Type 0
 StandForAsked =
     (at : ℕ) (input : Stream) (s : State) (es : List Tree) → IsReady s input es
     → let a = lower_exprs at input es s in
     a.state.names.next ≤ 2 ^ 64 → AllByRecursion (λ e. IsTrue (is_elementwise e)) a.exprs
-    × ((ms : List Named) × (map (put_back ms) a.exprs ≡ es) × AllByRecursion (λ (m : Named). (is_among m.0 s.names.used ≡ false) × (is_among m.0 a.state.names.used ≡ true)) ms)
+    × ((ms : List Named) × (map (put_back ms) a.exprs ≡ es) × AllByRecursion (λ (m : Named). (¬ IsKnown s.names m.0) × IsKnown a.state.names m.0) ms)
 
 -- Expressions that read the columns that are kept have the same columns.
 abbrev pub ReadsProjected : Type 0

@@ -9,11 +9,11 @@ use Rattle.ps_frame.specs.Trees.{Tree}
 use Rattle.ps_frame.specs.Zip.{Zipped}
 use Rattle.ps_frame.specs.declared.value.Value.{Value}
 use Rattle.ps_meaning.specs.Cases.{GivesBeforeCut}
-use Rattle.ps_meaning.specs.Schemas.{is_among, names_of}
+use Rattle.ps_meaning.specs.Schemas.{names_of}
 use Rattle.ps_meaning.specs.Shape.{PhysicalMayGive, PhysicalNode, Shape}
 use Rattle.ps_meaning.specs.Sound.{have_all_kinds}
 use Rattle.ps_meaning.specs.Steps.{Name, Step}
-use Rattle.ps_rules.specs.Names.{Names}
+use Rattle.ps_rules.specs.Names.{IsKnown, Names}
 use Rattle.ps_rules.specs.Slots.{State, Stream, node_at}
 
 -- each cause of the first is one of the second
@@ -37,9 +37,9 @@ abbrev pub IsOrdered : Shape → Type 0
 IsOrdered nodes = (n : ℕ) (p : PhysicalNode) (i : Stream) → slice_get nodes n ≡ Some p → Contains p.inputs i → i.0 < n
 
 abbrev pub AreKnown : Names → List Name → Type 0
-AreKnown names ns = AllByRecursion (λ n. IsTrue (is_among n names.used)) ns
+AreKnown names ns = AllByRecursion (IsKnown names) ns
 
--- What a call asks: its stream is there, its columns' names are in use and differ, and each expression has a kind.
+-- What a call asks: its stream is there, its columns' names are known and differ, and each expression has a kind.
 pub record IsReady (s : State) (input : Stream) (es : List Tree) : Type 0 where
   pub ordered : IsOrdered s.nodes
   pub node : PhysicalNode
@@ -49,12 +49,12 @@ pub record IsReady (s : State) (input : Stream) (es : List Tree) : Type 0 where
   pub typed : IsTrue (have_all_kinds node.schema es)
   pub some : es ≢ []
 
--- What a call leaves: the nodes that were there and new ones, which read earlier ones, and names that are still in use.
+-- What a call leaves: the nodes that were there and new ones, which read earlier ones, and names that are still known.
 pub record IsGrown (before after : State) : Type 0 where
   pub more : Shape
   pub nodes : after.nodes ≡ before.nodes ++ more
   pub ordered : IsOrdered after.nodes
-  pub used : (name : Name) → IsTrue (is_among name before.names.used) → IsTrue (is_among name after.names.used)
+  pub known : (name : Name) → IsKnown before.names name → IsKnown after.names name
 
 -- the causes of the nodes that a call made are known, whatever tables the nodes mean
 abbrev pub NewCausesAre : Functions → State → State → (ℕ → Table) → (Cause → Type 0) → Type 0

@@ -2,7 +2,7 @@
 ghost use Rattle.ps_shares.specs.Ends.{ChoicesRestrict, InputsShare, KindsFound, KindsGoBack, LeavesShow, NamesFound, NewCausesJoin, SelectsKeep, SelectsKeepCauses, SelectsShare, ShownKeep, StreamsKeep, ZipsShowCauses};
 ghost use Rattle.ps_shares.specs.Leaves.{GoByLeaves, PutsBack, ReadsColumns, ReadsTheSame, StayWithinByLeaves};
 ghost use Rattle.ps_shares.specs.CallLaws.{AggregatesShow, CallsAdd, CallsKeepCauses, CallsKeepRows, CausesByLeaves, FiltersShow, MembersDecide, NamesShow, ReadsProjected, ShapeShows, SortBysShow, SortsShow, StandForAsked};
-ghost use Rattle.ps_shares.specs.Shares.{InputsShow, SelectsShow, ShowsLess, ZipsShow};
+ghost use Rattle.ps_shares.specs.Shares.{ColumnsShowAll, InputsShow, SelectsShow, ShowsLess, ZipsReach, ZipsShow};
 
 /// An elementwise expression goes by what stands at its leaves: the operators in it are one zip of these.
 pub fn expressions_go_by_leaves()
@@ -26,6 +26,12 @@ pub fn tables_show_columns()
     ensures selects { SelectsShow }
     ensures zips { ZipsShow }
     ensures less { ShowsLess }
+{}
+
+/// Tables that show all of their columns, as the zip of columns does, have a zip that reaches as far as that of all their columns.
+pub fn zips_reach_as_far()
+    ensures columns { ColumnsShowAll }
+    ensures zips { ZipsReach }
 {}
 
 /// Only which extents occur decides how long a zip is, and whether it ends early.

@@ -1,0 +1,5 @@
+mod Reading
+mod Counting
+mod Adding
+mod Listing
+mod InUse

@@ -1,0 +1,3 @@
+pub mod Known
+pub mod InPlans
+pub mod Collected
