@@ -1,0 +1,6 @@
+pub mod Settled
+pub mod Run
+pub mod RunEnd
+pub mod JoinWorlds
+pub mod JoinRun
+pub mod RefusedSteps

@@ -1,0 +1,9 @@
+pub mod Examples
+pub mod Nodes
+pub mod SmallWorlds
+pub mod Keepers
+pub mod Joins
+pub mod JoinRun
+pub mod Ends
+pub mod SumRun
+pub mod Refused
