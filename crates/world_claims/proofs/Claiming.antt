@@ -1,6 +1,6 @@
 -- A claim keeps the numbers and what outputs say, and fits what it names.
-use Rattle.std.proofs.Common.{◌≡◌, ◌≢◌, ℕ, zero, suc, ◌<◌, ◌+◌, ◌≤◌, ◌⊎◌, Bool, true, false, cond, List, [], ◌∷◌, ◌++◌, length, Option, Some, None, refl, sym, ap, subst, ◌∙◌, inl, inr, arith}
-use Rattle.std.specs.Prelude.{Contains, IsFalse, IsTrue, get_or, is_some, map, nat_eq, nat_lt, not, option_map, slice_get, slice_set, ◌&&◌, ◌||◌}
+use Rattle.std.proofs.Common.{◌≡◌, ◌≢◌, ℕ, zero, suc, ◌<◌, ◌+◌, ◌⊎◌, Bool, true, false, cond, List, [], ◌∷◌, ◌++◌, length, Option, Some, None, refl, sym, ap, subst, ◌∙◌, inl, inr, arith}
+use Rattle.std.specs.Prelude.{Contains, IsTrue, get_or, map, nat_eq, nat_lt, not, option_map, slice_get, slice_set, ◌&&◌}
 use Rattle.std.specs.List.{filter as kept}
 use Rattle.std.proofs.lemmas.Bool.{cases_eq}
 use Rattle.std.proofs.lemmas.Bool.Decides.{nat_tests}
@@ -8,32 +8,31 @@ use Rattle.std.proofs.lemmas.Option.{get_or_from_slice_get, slice_get-get_or, sl
 use Rattle.ps_frame.specs.Functions.{Functions}
 use Rattle.ps_frame.specs.Sorting.{in_order, insert_in_order}
 use Rattle.ps_frame.specs.Tables.{Row}
-use Rattle.ps_meaning.specs.Joins.{fills_right}
-use Rattle.ps_meaning.specs.Shape.{PhysicalKind, PhysicalNode, equi_join, filter_node, group_by_node, ordered_union, reduce, select_node, simple_projection, stream_map, streaming_slice, with_row_index}
+use Rattle.ps_meaning.specs.Shape.{PhysicalKind, equi_join, filter_node, ordered_union, select_node, simple_projection, stream_map, streaming_slice, with_row_index}
 use Rattle.ps_meaning.specs.Sound.{HasInputs}
 use Rattle.ps_meaning.specs.Steps.{JoinStep}
-use Rattle.ps_ports.specs.Ports.{is_blocked, is_done, is_ready}
-use Rattle.ps_ports.specs.Wires.{Wire, both_ready, wires_in}
+use Rattle.ps_ports.specs.Ports.{is_done, is_ready}
+use Rattle.ps_ports.specs.Wires.{Wire, wires_in}
 use Rattle.ps_ports.specs.declared.port_state.PortState.{PortState}
 use Rattle.ps_ports.specs.declared.port_state.PortState.TheVariants as port
-use Rattle.ps_turns.specs.Claims.{Claim, Next, with_kept, with_slot}
-use Rattle.ps_turns.specs.Progress.{Progress, is_multiplexer}
-use Rattle.ps_world.specs.Claims.{after_claim, before_drops, claim_at, inputs_in_phase, next_morsel, piece_of}
-use Rattle.ps_world.specs.Facts.{Facts, IsWorking, Joins, is_filled_by, is_over_slice, joins_of, keeps_one}
-use Rattle.ps_world.specs.Fits.{Fits, FitsWhole}
+use Rattle.ps_turns.specs.Claims.{Claim, Next}
+use Rattle.ps_turns.specs.Progress.{Progress}
+use Rattle.ps_world.specs.Claims.{after_claim, before_drops, claim_at, inputs_in_phase, next_morsel}
+use Rattle.ps_world.specs.Facts.{Facts, Joins, is_filled_by, is_over_slice, joins_of, keeps_one}
+use Rattle.ps_world.specs.Fits.{FitsWhole}
 use Rattle.ps_world.specs.Pipes.{change_pipes, dropped_pipe, is_input, taken, with_place}
 use Rattle.ps_world.specs.Updates.{given_at}
-use Rattle.ps_world.specs.World.{Node, Pipe, World, bounded_out, claimed, counts_for_sender, has_next, heads_of, inputs_done, is_bounded, morsel_at, multiplexes, pipes_in, schemas_for, wires_of}
+use Rattle.ps_world.specs.World.{Node, Pipe, World, bounded_out, counts_for_sender, has_next, heads_of, inputs_done, is_bounded, morsel_at, multiplexes, pipes_in, schemas_for, wires_of}
 use Rattle.world_facts.proofs.CutOff.{and_true, both_true}
 use Rattle.world_facts.proofs.Placing.{has_inputs, inputs_given, map_length}
 use Rattle.world_facts.proofs.Slots.{set_here, set_other}
 use Rattle.world_facts.proofs.Wired.{input_at, input_place}
 use Rattle.world_laws.proofs.Agree.{from_map}
-use Rattle.world_laws.proofs.InOrder.{contains_first, contains_later, contains_map, none_in_nil}
+use Rattle.world_laws.proofs.InOrder.{contains_first, contains_later, contains_map}
 use Rattle.world_laws.proofs.PassingPorts.{same_number, was_kept}
 use Rattle.world_claims.proofs.Beside.{set_from}
-use Rattle.world_claims.proofs.Counting.{Counts, last_by, numbered_at, same_counts}
-use Rattle.world_claims.proofs.Forms.{Form, KeepsTaken, as_it_was, claims_single, form, gives_last, gives_own, gives_union, keeps_slot, own_single, passes_on, passing_single, slot_single, stays_over, with_first}
+use Rattle.world_claims.proofs.Counting.{last_by, numbered_at, same_counts}
+use Rattle.world_claims.proofs.Forms.{Form, KeepsTaken, as_it_was, claims_single, form, gives_last, gives_own, gives_union, keeps_slot, passes_on, stays_over, with_first}
 use Rattle.world_claims.proofs.Outs.{Marks, outs_keep, same_marks}
 use Rattle.world_claims.proofs.Steps.{drops_fit, drops_number, map_map}
 use Rattle.world_claims.specs.Numbering.{IsNumbered, NumberedAt, OutsFit, counts_own, has_given_last, keeps_slots, last_given, only_takes, passes_numbers}

@@ -1,7 +1,7 @@
 -- Steps that leave what a node counts, and the pipes around it, leave its numbers as they were.
-use Rattle.std.proofs.Common.{◌≡◌, ◌≢◌, ℕ, ◌+◌, Bool, true, false, List, [], length, Some, refl, sym, ap, subst, ◌∙◌}
-use Rattle.std.specs.Prelude.{Contains, IsFalse, IsTrue, get_or, map, slice_get}
-use Rattle.ps_meaning.specs.Shape.{PhysicalKind, PhysicalNode, equi_join, group_by_node, multiplexer, reduce}
+use Rattle.std.proofs.Common.{◌≡◌, ℕ, ◌+◌, Bool, true, false, [], length, Some, refl, sym, ap, subst, ◌∙◌}
+use Rattle.std.specs.Prelude.{Contains, IsTrue, get_or, map, slice_get}
+use Rattle.ps_meaning.specs.Shape.{PhysicalKind, PhysicalNode, equi_join, group_by_node, reduce}
 use Rattle.ps_ports.specs.Ports.{is_done}
 use Rattle.ps_turns.specs.Progress.{Progress, is_multiplexer}
 use Rattle.ps_world.specs.Facts.{Joins, joins_of}

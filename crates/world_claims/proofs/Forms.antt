@@ -1,6 +1,6 @@
 -- What a claim is, by kinds: rows of the node's own, a morsel that goes on, one that is kept, or what a join gives last.
-use Rattle.std.proofs.Common.{◌≡◌, ◌≢◌, ℕ, zero, suc, ◌+◌, ◌≤◌, Bool, true, false, cond, List, [], ◌∷◌, ◌++◌, length, Option, Some, None, refl, sym, ap, subst, ◌∙◌, arith}
-use Rattle.std.specs.Prelude.{IsFalse, IsTrue, get_or, map, nat_eq, nat_le, nat_lt, not, option_map, slice_get, slice_set, ◌&&◌, ◌||◌}
+use Rattle.std.proofs.Common.{◌≡◌, ◌≢◌, ℕ, zero, suc, ◌+◌, Bool, true, false, cond, List, [], ◌∷◌, length, Option, Some, None, refl, ap, subst, ◌∙◌, arith}
+use Rattle.std.specs.Prelude.{IsFalse, IsTrue, get_or, nat_eq, nat_le, nat_lt, not, option_map, ◌&&◌, ◌||◌}
 use Rattle.std.specs.List.{list_all, list_any}
 use Rattle.std.proofs.lemmas.Bool.Decides.{nat_tests}
 use Rattle.ps_frame.specs.Causes.{is_empty}
@@ -10,7 +10,7 @@ use Rattle.ps_meaning.specs.Cases.{end_of}
 use Rattle.ps_meaning.specs.Shape.{PhysicalKind, PhysicalNode, equi_join, filter_node, group_by_node, in_memory_join, in_memory_map, in_memory_sink, in_memory_source, independent_select, multiplexer, negative_slice, ordered_union, reduce, select_node, simple_projection, stream_map, streaming_slice, with_row_index, zip_node}
 use Rattle.ps_meaning.specs.Steps.{JoinStep}
 use Rattle.ps_options.specs.declared.options.Options.{Options}
-use Rattle.ps_turns.specs.Claims.{Claim, Next, all_taken, claim_by, of_heads, of_join, of_kept, of_last, of_left, of_made, of_none, of_own, of_part, of_parts, of_reduce, of_row, of_source, owes_last, passes, with_kept, with_left, with_slot}
+use Rattle.ps_turns.specs.Claims.{Claim, Next, claim_by, of_join, of_kept, of_last, of_left, of_made, of_parts, of_reduce, owes_last, passes, with_kept, with_slot}
 use Rattle.ps_turns.specs.Cuts.{is_exhausted}
 use Rattle.ps_turns.specs.Heads.{Head}
 use Rattle.ps_turns.specs.Progress.{Progress, Stage, giving, is_multiplexer, is_taking, spent, taking}

@@ -7,3 +7,4 @@ pub mod Claiming
 pub mod OutsOpen
 pub mod ReachedFacts
 pub mod WholeLaw
+pub mod PhaseEnds

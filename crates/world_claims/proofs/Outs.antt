@@ -1,10 +1,10 @@
 -- Steps of an open phase leave what its outputs say.
-use Rattle.std.proofs.Common.{◌≡◌, ℕ, Bool, true, false, List, [], length, Option, Some, None, refl, sym, ap, subst, ◌∙◌}
+use Rattle.std.proofs.Common.{◌≡◌, ℕ, Bool, true, false, Some, refl, sym, ap, subst, ◌∙◌}
 use Rattle.std.specs.Prelude.{Contains, IsFalse, IsTrue, map, not, slice_get, ◌&&◌}
 use Rattle.ps_meaning.specs.Shape.{PhysicalNode}
 use Rattle.ps_ports.specs.Ports.{is_blocked, is_ready}
 use Rattle.ps_ports.specs.Wires.{Wire, both_ready}
-use Rattle.ps_turns.specs.Progress.{Progress, Stage, is_multiplexer}
+use Rattle.ps_turns.specs.Progress.{is_multiplexer}
 use Rattle.ps_world.specs.Facts.{IsWorking}
 use Rattle.ps_world.specs.World.{Node, Pipe, World, multiplexes}
 use Rattle.world_facts.proofs.CutOff.{and_true, both_true}

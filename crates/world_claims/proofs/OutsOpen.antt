@@ -1,8 +1,8 @@
 -- An Open marks a phase whose outputs fit: its updates are settled, and its nodes are blockers and what feeds them.
-use Rattle.std.proofs.Common.{◌≡◌, ◌≢◌, ℕ, zero, suc, ◌<◌, ◌+◌, ◌≤◌, ◌⊎◌, Bool, true, false, cond, List, [], ◌∷◌, ◌++◌, length, Option, Some, None, refl, sym, ap, subst, ◌∙◌, inl, inr, arith}
-use Rattle.std.specs.Prelude.{Contains, IsFalse, IsTrue, get_or, map, nat_eq, nat_lt, not, option_map, option_to_list, slice_get, ◌&&◌, ◌||◌}
+use Rattle.std.proofs.Common.{◌≡◌, ℕ, zero, suc, ◌<◌, ◌+◌, ◌≤◌, ◌⊎◌, Bool, true, false, cond, List, [], ◌∷◌, length, Option, Some, None, refl, sym, ap, subst, ◌∙◌, inl, inr, arith}
+use Rattle.std.specs.Prelude.{Contains, IsFalse, IsTrue, get_or, nat_eq, nat_lt, not, option_map, option_to_list, slice_get, ◌&&◌, ◌||◌}
 use Rattle.std.specs.List.{filter as kept, list_all, list_any}
-use Rattle.std.proofs.lemmas.Bool.{or_left, or_right}
+use Rattle.std.proofs.lemmas.Bool.{or_left}
 use Rattle.std.proofs.lemmas.List.Elements.{Contains-append_cases}
 use Rattle.std.proofs.lemmas.Option.{get_or_from_slice_get, slice_get-map, slice_get_within}
 use Rattle.ps_frame.specs.Causes.{is_empty}
@@ -25,18 +25,18 @@ use Rattle.ps_world.specs.Facts.{Facts, IsWorking}
 use Rattle.ps_world.specs.Phases.{after_fault, after_open, blockers_in, intensive_at, marked_nodes, nodes_of_phase, with_phase}
 use Rattle.ps_world.specs.Step.{Opens, breaks, settles}
 use Rattle.ps_world.specs.Updates.{IsSettled, answer_at, empty_outs, given_at}
-use Rattle.ps_world.specs.World.{Node, Pipe, World, finished, heads_of, multiplexes, opened, wires_of}
+use Rattle.ps_world.specs.World.{Node, Pipe, World, finished, heads_of, multiplexes, wires_of}
 use Rattle.world_facts.proofs.CutOff.{and_true, both_true, its_number}
 use Rattle.world_facts.proofs.Placing.{answered, has_inputs, has_readers, in_place, map_length}
 use Rattle.world_facts.proofs.Slots.{all_at, some_at}
-use Rattle.world_facts.proofs.Wired.{among_out, input_at, input_place, port_place}
-use Rattle.world_facts.proofs.Wiring.{wires_forward, wires_inside}
+use Rattle.world_facts.proofs.Wired.{among_out, input_place, port_place}
+use Rattle.world_facts.proofs.Wiring.{wires_inside}
 use Rattle.world_laws.proofs.Agree.{from_map, reader_says, sender_says}
 use Rattle.world_laws.proofs.Blockers.{contains_below}
 use Rattle.world_laws.proofs.InOrder.{contains_cases, contains_first, contains_kept, contains_later, contains_map, list_any-contains, none_in_nil}
 use Rattle.world_laws.proofs.PassingPorts.{ordered, same_number, was_kept}
 use Rattle.world_claims.proofs.Beside.{marked_from}
-use Rattle.world_claims.proofs.Outs.{Marks, outs_shut}
+use Rattle.world_claims.proofs.Outs.{outs_shut}
 use Rattle.world_claims.proofs.Steps.{bare_outs}
 use Rattle.world_claims.specs.Numbering.{OutsFit, only_takes}
 

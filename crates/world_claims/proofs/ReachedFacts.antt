@@ -1,18 +1,14 @@
 -- Every world that the opening of a sound shape reaches keeps the facts, whatever its nodes.
-use Rattle.std.proofs.Common.{◌≡◌, ℕ, zero, suc, ◌+◌, ◌⊎◌, Bool, true, false, List, [], ◌∷◌, length, Option, None, Some, refl, sym, ap, subst, ◌∙◌, inl, inr, arith}
-use Rattle.std.specs.Prelude.{Contains, IsFalse, IsTrue, get_or, map, not, replicate, slice_get, ◌&&◌}
+use Rattle.std.proofs.Common.{◌≡◌, ℕ, zero, suc, ◌+◌, ◌⊎◌, List, [], ◌∷◌, length, Option, None, Some, refl, sym, ap, subst, ◌∙◌, inl, inr, arith}
+use Rattle.std.specs.Prelude.{Contains, get_or, map, replicate, slice_get}
 use Rattle.std.proofs.lemmas.List.Elements.{Contains-append_cases}
 use Rattle.ps_frame.specs.Functions.{Functions}
 use Rattle.ps_frame.specs.Tables.{Row}
 use Rattle.ps_meaning.specs.Shape.{PhysicalKind, PhysicalNode, Shape, equi_join}
 use Rattle.ps_meaning.specs.Sound.{IsSound}
 use Rattle.ps_options.specs.declared.options.Options.{Options}
-use Rattle.ps_turns.specs.Progress.{Progress}
-use Rattle.ps_world.specs.Claims.{after_claim}
-use Rattle.ps_world.specs.Facts.{Facts}
 use Rattle.ps_world.specs.Opening.{Reaches, fresh_node, no_progress, fresh_pipe, opening, pipes_from, pipes_to}
 use Rattle.ps_world.specs.Step.{Replays, Steps}
-use Rattle.ps_world.specs.Updates.{Updates}
 use Rattle.ps_world.specs.World.{Node, Pipe, Record, World, claimed, closed, ended, handed_in, opened, pulled}
 use Rattle.world_facts.proofs.Claimed.{claim_keeps}
 use Rattle.world_facts.proofs.ClosedKeeps.{closed_keeps}
@@ -23,7 +19,6 @@ use Rattle.world_facts.proofs.OpeningFacts.{at_opening}
 use Rattle.world_facts.proofs.PulledKeeps.{pulled_keeps}
 use Rattle.world_facts.proofs.UpdatedKeeps.{updates_keep_facts}
 use Rattle.world_laws.proofs.InOrder.{contains_cases, none_in_nil}
-use Rattle.world_claims.proofs.Beside.{map_from}
 use Rattle.world_claims.proofs.Claiming.{claims_fit, claims_number, fits_whole}
 use Rattle.world_claims.proofs.Outs.{outs_shut}
 use Rattle.world_claims.proofs.OutsOpen.{opens_fit}

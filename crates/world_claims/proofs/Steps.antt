@@ -1,8 +1,7 @@
 -- Each step but a claim keeps the numbers, and each step of an open phase what the outputs say.
-use Rattle.std.proofs.Common.{◌≡◌, ◌≢◌, ℕ, zero, suc, ◌+◌, ◌⊎◌, Bool, true, false, cond, List, [], ◌∷◌, ◌++◌, length, Option, Some, None, refl, sym, ap, subst, ◌∙◌, inl, inr, arith, map-id}
-use Rattle.std.specs.Prelude.{Contains, IsFalse, IsTrue, get_or, map, nat_eq, not, slice_get, slice_set, ◌&&◌, ◌||◌}
-use Rattle.std.proofs.lemmas.Bool.{cases_eq}
-use Rattle.ps_frame.specs.Causes.{Cause, is_empty}
+use Rattle.std.proofs.Common.{◌≡◌, ℕ, zero, suc, Bool, true, false, cond, List, [], ◌∷◌, length, Option, Some, None, refl, sym, ap, subst, ◌∙◌, inl, inr, map-id}
+use Rattle.std.specs.Prelude.{get_or, map, nat_eq, slice_get, slice_set, ◌&&◌}
+use Rattle.ps_frame.specs.Causes.{is_empty}
 use Rattle.ps_frame.specs.Functions.{Functions}
 use Rattle.ps_frame.specs.Tables.{Fields, Row}
 use Rattle.ps_meaning.specs.Shape.{PhysicalKind, PhysicalNode, group_by_node, in_memory_join, in_memory_map, in_memory_sink, multiplexer, negative_slice, zip_node}
@@ -15,22 +14,22 @@ use Rattle.ps_ports.specs.declared.port_state.PortState.TheVariants as port
 use Rattle.ps_turns.specs.Claims.{filled_slot}
 use Rattle.ps_turns.specs.Progress.{Progress, is_multiplexer}
 use Rattle.ps_turns.specs.Pulls.{after_store, pulls}
-use Rattle.ps_turns.specs.Tasks.{Answer, Handed, Piece, bad, good, partial}
+use Rattle.ps_turns.specs.Tasks.{Answer, Piece, bad, good, partial}
 use Rattle.ps_turns.specs.Updates.{Makes, Turns}
-use Rattle.ps_world.specs.Answers.{answered, put_in, with_partial}
+use Rattle.ps_world.specs.Answers.{answered, with_partial}
 use Rattle.ps_world.specs.Closing.{after_close, after_end}
 use Rattle.ps_world.specs.Facts.{joins_of}
-use Rattle.ps_world.specs.Phases.{after_fault, after_open, blockers_in, intensive_at, marked_nodes, nodes_of_phase, with_phase}
-use Rattle.ps_world.specs.Pipes.{change_pipes, drop_at, drop_if, drops_from, dropped_pipe, heads_lost, is_input, put_progress, taken, with_answer, with_morsel, with_progress, without_heads}
+use Rattle.ps_world.specs.Phases.{after_fault, after_open, blockers_in, intensive_at, nodes_of_phase, with_phase}
+use Rattle.ps_world.specs.Pipes.{change_pipes, drop_at, drop_if, drops_from, dropped_pipe, is_input, put_progress, taken, with_answer, with_morsel, with_progress, without_heads}
 use Rattle.ps_world.specs.Pulls.{after_pull, is_open_port}
-use Rattle.ps_world.specs.Step.{Opens, Steps, breaks, settles}
+use Rattle.ps_world.specs.Step.{Opens, breaks, settles}
 use Rattle.ps_world.specs.Updates.{Updates, answer_at, given_at, no_update, one_fill, one_update, received, sent, updated, written}
-use Rattle.ps_world.specs.World.{Node, Pipe, World, closed, counts_for_sender, ended, faulty, finished, handed_in, is_cut_off, opened, pulled, schemas_for, wires_of}
+use Rattle.ps_world.specs.World.{Node, Pipe, World, counts_for_sender, finished, is_cut_off, schemas_for, wires_of}
 use Rattle.world_laws.proofs.PassingPorts.{same_number}
 use Rattle.world_claims.proofs.Beside.{heads_from, map_from, marked_from, set_from}
 use Rattle.world_claims.proofs.Counting.{Counts, by_number, numbered_at, numbers_keep, same_counts}
 use Rattle.world_claims.proofs.Outs.{Marks, outs_keep, outs_shut, same_marks}
-use Rattle.world_claims.specs.Numbering.{IsNumbered, NumberedAt, OutsFit}
+use Rattle.world_claims.specs.Numbering.{IsNumbered, OutsFit}
 
 pub map_map : {A B C : Type 0} (f : A → B) (g : B → C) (xs : List A) → map g (map f xs) ≡ map (λ x. g (f x)) xs
 map_map f g [] = refl

@@ -1,9 +1,8 @@
 -- What is known of every reached world is what the induction over a graph asks of it.
-use Rattle.std.proofs.Common.{◌≡◌, ℕ, Bool, true, false, refl, sym, ap, ◌∙◌}
-use Rattle.std.specs.Prelude.{Contains, IsFalse, IsTrue, nat_lt, not, ◌||◌}
+use Rattle.std.proofs.Common.{◌≡◌, Bool, true, false, refl, ap, ◌∙◌}
+use Rattle.std.specs.Prelude.{nat_lt, not, ◌||◌}
 use Rattle.ps_frame.specs.Functions.{Functions}
-use Rattle.ps_world.specs.Laws.{FactsLaw, IsFull, IsStarved, PhaseFacts}
-use Rattle.ps_world.specs.Updates.{Updates}
+use Rattle.ps_world.specs.Laws.{FactsLaw, IsFull, PhaseFacts}
 use Rattle.ps_world.specs.World.{Pipe, World, is_bounded, multiplexes, places_taken, room, running}
 use Rattle.std.specs.Prelude.{slice_get}
 use Rattle.world_facts.proofs.FromFacts.{forward, full_reader, piece_nodes, pieces_open, starved_sender}

@@ -1,5 +1,5 @@
 -- How the numbers of a node's answers hang together with its pipes, and what its outputs say in an open phase.
-use Rattle.std.specs.Prelude.{◌≡◌, ◌≢◌, ℕ, zero, suc, ◌+◌, Bool, true, false, ◌&&◌, List, [], length, Some, get_or, slice_get, Contains, IsTrue, IsFalse}
+use Rattle.std.specs.Prelude.{◌≡◌, ◌≢◌, ℕ, zero, suc, ◌+◌, Bool, true, false, ◌&&◌, [], length, Some, get_or, slice_get, Contains, IsTrue, IsFalse}
 use Rattle.ps_frame.specs.Functions.{Functions}
 use Rattle.ps_meaning.specs.Joins.{fills_right}
 use Rattle.ps_meaning.specs.Shape.{PhysicalKind, equi_join, filter_node, group_by_node, in_memory_join, in_memory_map, in_memory_source, independent_select, negative_slice, ordered_union, reduce, select_node, simple_projection, stream_map, streaming_slice, with_row_index, zip_node}

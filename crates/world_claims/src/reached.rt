@@ -1,5 +1,5 @@
 // What every reached world keeps, as theorems of functions that do nothing.
-ghost use Rattle.std.specs.Prelude.{◌≡◌, ◌&&◌, IsTrue, Some, not, slice_get, true, ℕ};
+ghost use Rattle.std.specs.Prelude.{◌≡◌, ◌&&◌, [], IsTrue, Some, not, slice_get, ℕ};
 ghost use Rattle.ps_frame.specs.Functions.{Functions};
 ghost use Rattle.ps_meaning.specs.Shape.{Shape};
 ghost use Rattle.ps_meaning.specs.Sound.{IsSound};
@@ -11,7 +11,8 @@ ghost use Rattle.ps_world.specs.Fits.{FitsWhole};
 ghost use Rattle.ps_world.specs.Laws.{FactsLaw};
 ghost use Rattle.ps_world.specs.Opening.{Reaches};
 ghost use Rattle.ps_world.specs.Promises.{Halts};
-ghost use Rattle.ps_world.specs.World.{Node, World};
+ghost use Rattle.ps_world.specs.Step.{Steps};
+ghost use Rattle.ps_world.specs.World.{Node, World, ended};
 ghost use Rattle.world_claims.specs.Numbering.{IsNumbered, Known, OutsFit};
 
 /// Every world that the opening of a sound shape reaches keeps the facts, whatever its nodes do. The numbers of each node's answers hang together with its pipes, and in an open phase the outputs of each node fit it.
@@ -34,4 +35,9 @@ pub fn claims_fit_their_pipes()
 /// In every reached world a node whose every way on in the phase meets a dropped pipe claims nothing.
 pub fn satisfied_slices_halt()
     ensures { (F : Functions) (shape : Shape) (o : Options) (w : World) → IsSound F shape → Reaches F shape o w → Halts F w }
+{}
+
+/// In every reached world, where a phase ends no piece is out: what was claimed in it was handed in.
+pub fn phases_end_with_nothing_out()
+    ensures { (F : Functions) (shape : Shape) (o : Options) (w v : World) (phase : ℕ) → IsSound F shape → Reaches F shape o w → Steps F w (ended phase) v → w.outs ≡ [] }
 {}

@@ -1,4 +1,4 @@
--- Each number that is handed in was claimed before, and no oftener: hand-ins so far and pieces out are at most the claims. So T4's first clause holds of the numbers of a source.
+-- Each number that is handed in was claimed before, and no oftener: hand-ins so far and pieces out are at most the claims. So each number of a source is claimed once, and handed in after that.
 use Rattle.std.proofs.Common.{◌≡◌, ℕ, zero, suc, ◌+◌, ◌≤◌, ◌⊎◌, Bool, true, false, cond, List, [], ◌∷◌, ◌++◌, length, Option, Some, None, refl, sym, ap, subst, ◌∙◌, inl, inr, arith}
 use Rattle.std.specs.Prelude.{Contains, nat_eq, not, slice_get, ◌&&◌}
 use Rattle.std.specs.List.{count_by, filter as kept}
