@@ -9,7 +9,7 @@ use Rattle.ps_world.specs.World.{Pipe, Node, Record, opened, claimed, handed_in,
 use Rattle.world_runs.specs.Examples.{filter_journal, filter_shape, filtered, given, Leaves, one_worker}
 use Rattle.ps_world.specs.Opening.{no_progress, opening}
 use Rattle.ps_world.specs.Step.{Replays, Steps, settles}
-use Rattle.ps_world.specs.Updates.{IsAtRest, IsSettled, Updates, no_update, one_update}
+use Rattle.ps_world.specs.Updates.{IsSettled, Updates, no_update, one_update}
 use Rattle.world_runs.proofs.Run.{first_seven, node_at_0, node_at_1, node_at_2, w7_written}
 use Rattle.world_runs.specs.Nodes.{node_of, update}
 use Rattle.world_runs.proofs.Settled.{three}

@@ -1,6 +1,7 @@
 -- Two small shapes, the journal of a run over the first, and what a run leaves.
 use Rattle.std.specs.Prelude.{◌≡◌, ℕ, Bool, None, ◌^◌, T, leb, pos, List, [], ◌∷◌, ◌++◌, codes, map, false}
 use Rattle.std.proofs.Math.Facts.{leb_yes}
+use Rattle.ps_frame.specs.Causes.{Cause}
 use Rattle.ps_frame.specs.Functions.{Functions}
 use Rattle.ps_frame.specs.Tables.{Fields, Frame, Row}
 use Rattle.ps_frame.specs.Trees.{Aggregation, Tree}
@@ -17,7 +18,7 @@ use Rattle.ps_world.specs.Opening.{opening}
 use Rattle.ps_world.specs.Step.{Replays}
 use Rattle.ps_turns.specs.Tasks.{rows}
 use Rattle.ps_options.specs.declared.options.Options.{Options}
-use Rattle.ps_world.specs.World.{Node, Record, World, claimed, closed, ended, handed_in, opened, pulled}
+use Rattle.ps_world.specs.World.{Node, Record, World, claimed, closed, ended, faulty, handed_in, opened, pulled}
 
 abbrev pub number : ℕ → Value
 number n = val.Int64 (pos n)
@@ -103,3 +104,7 @@ sum_shape =
 -- the journal leads from the opening to a world whose nodes keep these morsels of their inputs
 abbrev pub Leaves : Functions → Shape → Options → List Record → List (List (List (List Row))) → Type 0
 Leaves F shape o journal stores = (w : World) × Replays F (opening shape o) journal w × (map (λ (n : Node). n.progress.stores) w.nodes ≡ stores)
+
+-- the journal leads to a world that this cause ended
+abbrev pub Breaks : Functions → Shape → Options → List Record → Cause → Type 0
+Breaks F shape o journal c = (w : World) × Replays F (opening shape o) journal w × (w.ending ≡ faulty c)

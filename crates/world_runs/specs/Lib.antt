@@ -7,3 +7,9 @@ pub mod JoinRun
 pub mod Ends
 pub mod SumRun
 pub mod Refused
+pub mod SumJournal
+pub mod SliceRun
+pub mod UnionRun
+pub mod DifferingRun
+pub mod EndsRun
+pub mod FullRun

@@ -5,7 +5,7 @@ ghost use Rattle.ps_turns.specs.Progress.{giving, is_intensive, spent, taking};
 ghost use Rattle.ps_turns.specs.Pulls.{after_store};
 ghost use Rattle.ps_world.specs.Pulls.{after_pull};
 ghost use Rattle.ps_world.specs.World.{Node};
-ghost use Rattle.world_runs.specs.Ends.{a, row, two_before, stored, a_slice, the_pipe, before};
+ghost use Rattle.world_runs.specs.Ends.{row, two_before, stored, a_slice, the_pipe, before};
 
 /// A slice of one row from two before the end pulls morsels of one, one and two rows. It then lets go of the first two, and has counted four; what is left gives its row. It is memory intensive while it takes.
 pub fn stores_let_go()

@@ -9,7 +9,6 @@ ghost use Rattle.ps_turns.specs.Progress.{giving, spent, taking};
 ghost use Rattle.ps_turns.specs.Tables.{whole_table};
 ghost use Rattle.ps_turns.specs.Tasks.{Task, computes, gives_part, keeps};
 ghost use Rattle.ps_turns.specs.Updates.{answer_of, is_waiting, next_stage, stage_after};
-ghost use Rattle.ps_meaning.specs.Shape.{multiplexer, reduce};
 ghost use Rattle.ps_world.specs.Opening.{no_progress};
 ghost use Rattle.world_runs.specs.Keepers.{ab, row, two_workers, a_reduce, a_group_by, morsel, first_claim, gives, a_map, input_done, a_multiplexer};
 

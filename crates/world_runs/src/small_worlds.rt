@@ -1,6 +1,5 @@
 // Small worlds and heads that tell the rules from wrong ones, as theorems of functions that do nothing.
 ghost use Rattle.std.specs.Prelude.{◌≡◌, [], ◌∷◌, true, false, None, is_some, map};
-ghost use Rattle.ps_meaning.specs.Steps.{select};
 ghost use Rattle.ps_world.specs.Claims.{claim_at};
 ghost use Rattle.ps_turns.specs.Heads.{Head, heads_by};
 ghost use Rattle.ps_ports.specs.Wires.{is_live};

@@ -7,7 +7,7 @@ ghost use Rattle.ps_world.specs.Phases.{after_open, blockers_in, nodes_of_phase}
 ghost use Rattle.ps_world.specs.Updates.{IsSettled};
 ghost use Rattle.ps_world.specs.World.{Pipe, finished, heads_of};
 ghost use Rattle.world_runs.specs.Nodes.{node_of, update};
-ghost use Rattle.world_runs.specs.SumRun.{table, s1, s2, storing, s3, s4};
+ghost use Rattle.world_runs.specs.SumRun.{s1, s2, storing, s3, s4};
 
 /// Five updates lead from the opening to rest. The reduce is then the only blocker, and its phase has the table's source, the multiplexer, and the pipes from the one and from port 1 of the other.
 pub fn first_open()
