@@ -64,7 +64,7 @@ whole-from c h = by c.broken h
     by [] h = refl
     by (x ∷ xs) h = cc
 
-or-parts : (a b : Bool) → (a || b) ≡ false → (a ≡ false) × (b ≡ false)
+pub or-parts : (a b : Bool) → (a || b) ≡ false → (a ≡ false) × (b ≡ false)
 or-parts true b h = cc
 or-parts false b h = (refl, h)
 
@@ -200,11 +200,11 @@ zip-unended cs causes shape more e = by (list_any is_ended cs) refl e
     by true q e = absurd (causes-nonempty cs q (append-empty_left (flat_map column_causes cs) causes e))
     by false q e = refl
 
-or-true : (a : Bool) → (a || true) ≡ true
+pub or-true : (a : Bool) → (a || true) ≡ true
 or-true true = refl
 or-true false = refl
 
-zip-clean : (node : ℕ) (cs : List Column) → (zipped false node cs).broken ≡ [] → list_any is_faulty_row (aligned false node cs).rows ≡ false
+pub zip-clean : (node : ℕ) (cs : List Column) → (zipped false node cs).broken ≡ [] → list_any is_faulty_row (aligned false node cs).rows ≡ false
 zip-clean node cs e = by (list_any is_faulty_row (aligned false node cs).rows) refl e
   where
     by : (b : Bool) → list_any is_faulty_row (aligned false node cs).rows ≡ b → cond (ends_early false cs || b) (zip_causes false node cs) [] ≡ [] → list_any is_faulty_row (aligned false node cs).rows ≡ false

@@ -118,7 +118,7 @@ module _ (rows : List (List Value)) (ended : Bool) where
   lengths-fit test none os all = lengths-same test (length rows) (extents (columns os)) (all-fit test none os all)
 
   -- the lengths agree
-  agrees : (os : List Operand) → AllStand os → breaks_shape false (extents (columns os)) ≡ false
+  pub agrees : (os : List Operand) → AllStand os → breaks_shape false (extents (columns os)) ≡ false
   agrees os all =
       let open_fit = lengths-fit (λ e. not e.ended && not (e.len == 1)) refl os all in
       let ended_fit = lengths-fit (λ e. e.ended) refl os all in
@@ -164,7 +164,7 @@ module _ (rows : List (List Value)) (ended : Bool) where
   row-is i (o ∷ os) all lt =
       ap (λ x. x ∷ map (cell_in_row false i) (columns os)) (cell-is i o.lone o.column o.cell all.0 lt) ∙ ap (λ xs. o.cell (get_or rows i []) ∷ xs) (row-is i os all.1 lt)
 
-  spread-rows : (os : List Operand) → AllStand os → all_lone os ≡ false → zip_rows false (zip_length false (extents (columns os))) (columns os) ≡ map (cells_for os) rows
+  pub spread-rows : (os : List Operand) → AllStand os → all_lone os ≡ false → zip_rows false (zip_length false (extents (columns os))) (columns os) ≡ map (cells_for os) rows
   spread-rows os all some =
       ap (λ n. zip_rows false n (columns os)) (spread-length os all some)
       ∙ map-below (length rows) (λ i. map (cell_in_row false i) (columns os)) (λ i. cells_for os (get_or rows i [])) (λ i lt. row-is i os all lt)
@@ -196,7 +196,7 @@ module _ (rows : List (List Value)) (ended : Bool) where
   or-none true b e = refl
   or-none false b e = e
 
-  ends-is : (os : List Operand) → AllStand os → all_lone os ≡ false → ends_early false (columns os) ≡ ended
+  pub ends-is : (os : List Operand) → AllStand os → all_lone os ≡ false → ends_early false (columns os) ≡ ended
   ends-is os all some =
       or-none (list_any is_ended (columns os)) (breaks_shape false (extents (columns os))) (agrees os all)
       ∙ any-ended os all ∙ ap (λ b. not b && ended) some
@@ -221,11 +221,11 @@ module _ (rows : List (List Value)) (ended : Bool) where
   lost-is true c g s some = ap (λ (c : Column). c.lost) s.0
   lost-is false c g s some = s.2 some
 
-  none-lost : (os : List Operand) → AllStand os → (rows ≡ [] → ⊥) → flat_map (λ (c : Column). c.lost) (columns os) ≡ []
+  pub none-lost : (os : List Operand) → AllStand os → (rows ≡ [] → ⊥) → flat_map (λ (c : Column). c.lost) (columns os) ≡ []
   none-lost [] all some = refl
   none-lost (o ∷ os) all some = ap (λ cs. cs ++ flat_map (λ (c : Column). c.lost) (columns os)) (lost-is o.lone o.column o.cell all.0 some) ∙ none-lost os all.1 some
 
-  none-unseen : (n : ℕ) (rs : List (List Value)) (cs : List Column) → n ≡ length rs → (rs ≡ [] → ⊥) → unseen_causes false n cs ≡ []
+  pub none-unseen : (n : ℕ) (rs : List (List Value)) (cs : List Column) → n ≡ length rs → (rs ≡ [] → ⊥) → unseen_causes false n cs ≡ []
   none-unseen n [] cs e some = absurd (some refl)
   none-unseen zero (r ∷ rs) cs e some = absurd (omega (arith, e))
   none-unseen (suc n) (r ∷ rs) cs e some = refl
@@ -246,7 +246,7 @@ module _ (rows : List (List Value)) (ended : Bool) where
   and-parts true b h = (refl, h)
   and-parts false b h = cc
 
-  lone-is : (b : Bool) (c : Column) (g : List Value → Cell) → Stands b c g → b ≡ true → (c ≡ lone_column (g [])) × ((row : List Value) → g row ≡ g [])
+  pub lone-is : (b : Bool) (c : Column) (g : List Value → Cell) → Stands b c g → b ≡ true → (c ≡ lone_column (g [])) × ((row : List Value) → g row ≡ g [])
   lone-is true c g s q = s
   lone-is false c g s q = cc
 

@@ -1,0 +1,5 @@
+pub mod Ports
+pub mod Wires
+pub mod UpdateLaws
+pub mod Phases
+pub mod Examples

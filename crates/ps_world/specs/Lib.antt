@@ -1,0 +1,17 @@
+pub mod World
+pub mod Pipes
+pub mod Claims
+pub mod Answers
+pub mod Pulls
+pub mod Closing
+pub mod Updates
+pub mod Phases
+pub mod Step
+pub mod Opening
+pub mod Facts
+pub mod Fits
+pub mod Laws
+pub mod Passing
+pub mod Keeping
+pub mod Promises
+pub mod Booking

@@ -1,0 +1,10 @@
+pub mod Forms
+pub mod Beside
+pub mod Counting
+pub mod Outs
+pub mod Steps
+pub mod Claiming
+pub mod OutsOpen
+pub mod ReachedFacts
+pub mod WholeLaw
+pub mod PhaseEnds

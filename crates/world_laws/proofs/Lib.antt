@@ -1,0 +1,17 @@
+pub mod Agree
+pub mod Answered
+pub mod BetweenPhases
+pub mod Blockers
+pub mod Endings
+pub mod Faulty
+pub mod FrontLaw
+pub mod InOrder
+pub mod Induction
+pub mod KeeperLaw
+pub mod OneChoice
+pub mod OnePhase
+pub mod OnwardLaw
+pub mod PassingPorts
+pub mod Reached
+pub mod Shapes
+pub mod Stuck

@@ -1,0 +1,13 @@
+pub mod Settled
+pub mod Run
+pub mod RunEnd
+pub mod JoinWorlds
+pub mod JoinRun
+pub mod RefusedSteps
+pub mod Writing
+pub mod SumJournalSteps
+pub mod SliceRunSteps
+pub mod UnionRunSteps
+pub mod DifferingRunSteps
+pub mod EndsRunSteps
+pub mod FullRunSteps

@@ -1,0 +1,15 @@
+pub mod Examples
+pub mod Nodes
+pub mod SmallWorlds
+pub mod Keepers
+pub mod Joins
+pub mod JoinRun
+pub mod Ends
+pub mod SumRun
+pub mod Refused
+pub mod SumJournal
+pub mod SliceRun
+pub mod UnionRun
+pub mod DifferingRun
+pub mod EndsRun
+pub mod FullRun
