@@ -15,7 +15,7 @@ use Rattle.ps_turns.specs.Tables.{whole_table}
 use Rattle.ps_turns.specs.Tasks.{bad, good}
 use Rattle.ps_options.specs.declared.options.Options.{Options}
 use Rattle.ps_world.specs.Booking.{BeforeAfter, CaseAfter, Computes, GivesAfter, GoesOn, HasBooked, IsPassing, IsShort, MayAnswer, StandsAt, slice_after}
-use Rattle.ps_world.specs.Laws.{Faults, Overflows, sent_by}
+use Rattle.ps_world.specs.Laws.{BreaksWhatever, IsLargeWhatever, sent_by}
 use Rattle.ps_world.specs.World.{Pipe}
 use Rattle.passing_laws.proofs.PieceFaults.{piece-faults, piece-overflows}
 use Rattle.passing_laws.proofs.SoundPieces.{sound-fewer, sound-part-faults}
@@ -90,9 +90,9 @@ claim-gives F o p s h law progress before booked i k rs b r = good-gives F o p.s
 
 pub claim-breaks : (F : Functions) (o : Options) (shape : Shape) (n : ℕ) (p : PhysicalNode) (s : Fields) → IsSound F shape → slice_get shape n ≡ Some p → IsShort p.kind → input_schemas shape p ≡ s ∷ []
     → (from : Pipe) (progress : Progress) (i k : ℕ) (front a : List Row) (c : Cause) → StandsAt from.got k front a → HasBooked p.kind progress (length front) → MayAnswer F i (passes o p (s ∷ []) p.kind progress k a) (bad c)
-    → Faults F p (s ∷ []) (sent_by from ∷ []) c ⊎ Overflows F p (s ∷ []) (sent_by from ∷ [])
+    → BreaksWhatever F p (s ∷ []) (sent_by from ∷ []) c ⊎ IsLargeWhatever F p (s ∷ []) (sent_by from ∷ [])
 claim-breaks F o shape n p s sound there short reads from progress i k front a c stands booked r = by (bad-breaks F o p.schema p.origin p.inputs s p.kind short progress (length front) booked i k a c r)
   where
-    by : Computes p.kind × Breaks F o p.schema p.origin p.inputs s p (length front) a c → Faults F p (s ∷ []) (sent_by from ∷ []) c ⊎ Overflows F p (s ∷ []) (sent_by from ∷ [])
+    by : Computes p.kind × Breaks F o p.schema p.origin p.inputs s p (length front) a c → BreaksWhatever F p (s ∷ []) (sent_by from ∷ []) c ⊎ IsLargeWhatever F p (s ∷ []) (sent_by from ∷ [])
     by (computes, (U, before, inl among)) = inl (piece-faults F p s computes (sound-part-faults F shape n p s sound there computes reads) from k front a stands U c before among)
     by (computes, (U, before, inr too_many)) = inr (piece-overflows F p s (sound-fewer F shape n p s sound there short reads) from k front a stands U before too_many.0)

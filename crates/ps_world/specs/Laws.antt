@@ -10,10 +10,10 @@ use Rattle.ps_ports.specs.Wires.{Wire, is_live, wires_in}
 use Rattle.ps_ports.specs.declared.port_state.PortState.TheVariants as port
 use Rattle.ps_turns.specs.Heads.{stored_rows}
 use Rattle.ps_turns.specs.Progress.{Stage, is_taking, keeps_input}
-use Rattle.ps_turns.specs.Results.{IsResult}
+use Rattle.ps_turns.specs.Results.{IsResult, rows_fault}
 use Rattle.ps_turns.specs.Tasks.{Piece, bad}
 use Rattle.ps_meaning.specs.Cases.{schemas_of}
-use Rattle.ps_meaning.specs.Shape.{as_step, equi_join, in_memory_sink, IsPhysicalChoice, PhysicalBefore, PhysicalCase, PhysicalKind, PhysicalNode, Shape, tables_for}
+use Rattle.ps_meaning.specs.Shape.{as_step, equi_join, in_memory_sink, IsLargeByStep, IsPhysicalChoice, PhysicalBefore, PhysicalCase, PhysicalKind, PhysicalNode, Shape, tables_for}
 use Rattle.ps_meaning.specs.Sound.{input_schemas, IsSound}
 use Rattle.ps_options.specs.declared.options.Options.{Options}
 use Rattle.ps_world.specs.World.{Pipe, Node, Record, World, handed_in, opened, pulled, faulty, running, rows_in_order, has_next, is_over, has_place, shape_of, wires_of}
@@ -81,16 +81,23 @@ pub record ServedByChoice (F : Functions) (shape : Shape) (sent : ℕ → ℕ �
 abbrev pub IsForward : Shape → Type 0
 IsForward shape = (n : ℕ) (p : PhysicalNode) → slice_get shape n ≡ Some p → AllByRecursion (λ i. i.0 < n) p.inputs
 
--- FAULT PART. A cause that a step of the node makes breaks it, whatever tables the inputs turn out to mean.
-abbrev pub Faults : Functions → PhysicalNode → List Fields → List Sent → Cause → Type 0
-Faults F p ss ins c =
+-- FAULT PART. A cause breaks the node, whatever tables the inputs turn out to mean.
+abbrev pub BreaksWhatever : Functions → PhysicalNode → List Fields → List Sent → Cause → Type 0
+BreaksWhatever F p ss ins c =
     (Ts : List Table) → schemas_of Ts ≡ ss → AllZip Extends ins Ts → (U : Table) × PhysicalBefore F p (as_step p.kind) (tables_for F p.kind Ts) U × Contains U.broken c
 
--- or there are too many rows: in a table that it may give, or in that of an input
-abbrev pub Overflows : Functions → PhysicalNode → List Fields → List Sent → Type 0
-Overflows F p ss ins =
+-- or there are too many rows: in a table that it may give, in that of an input, or in what its step computes over a part of the rows
+abbrev pub IsLargeWhatever : Functions → PhysicalNode → List Fields → List Sent → Type 0
+IsLargeWhatever F p ss ins =
     (Ts : List Table) → schemas_of Ts ≡ ss → AllZip Extends ins Ts
-    → ((U : Table) × PhysicalBefore F p (as_step p.kind) (tables_for F p.kind Ts) U × (max_rows < length U.rows)) ⊎ ((T : Table) × Contains Ts T × (max_rows < length T.rows))
+    → ((U : Table) × PhysicalBefore F p (as_step p.kind) (tables_for F p.kind Ts) U × (max_rows < length U.rows)) ⊎ ((T : Table) × Contains Ts T × (max_rows < length T.rows)) ⊎ IsLargeByStep F p.origin (as_step p.kind) (tables_for F p.kind Ts)
+
+-- A step of the node makes a cause of the node's own that breaks it so, or says that it has too many rows where it has.
+abbrev pub Faults : Functions → PhysicalNode → List Fields → List Sent → Cause → Type 0
+Faults F p ss ins c = (c.node ≡ p.origin) × BreaksWhatever F p ss ins c
+
+abbrev pub Overflows : Functions → PhysicalNode → List Fields → List Sent → Cause → Type 0
+Overflows F p ss ins c = (c ≡ rows_fault p) × IsLargeWhatever F p ss ins
 
 -- a step by this record makes the world faulty by a cause of node n
 abbrev pub MakesFault : Functions → World → Record → ℕ → Cause → Type 0
@@ -183,9 +190,9 @@ pub record FamilyLaw (F : Functions) (Covers : PhysicalKind → Type 0) (Facts :
   pub justifies : (w : World) (n : ℕ) (p : PhysicalNode) → Facts w → slice_get (shape_of w) n ≡ Some p → Covers p.kind → Holds w n
       → Justified F p (input_schemas (shape_of w) p) (sent_to (sent_at w) p) (sent_at w n)
   pub open_faults : (s : World) (n : ℕ) (p : PhysicalNode) (c : Cause) → Facts s → slice_get (shape_of s) n ≡ Some p → Covers p.kind → Holds s n → FaultFound F s n c
-      → Faults F p (input_schemas (shape_of s) p) (sent_to (sent_at s) p) c ⊎ Overflows F p (input_schemas (shape_of s) p) (sent_to (sent_at s) p)
+      → Faults F p (input_schemas (shape_of s) p) (sent_to (sent_at s) p) c ⊎ Overflows F p (input_schemas (shape_of s) p) (sent_to (sent_at s) p) c
   pub faults : (w : World) (r : Record) (n : ℕ) (p : PhysicalNode) (c : Cause) → Facts w → slice_get (shape_of w) n ≡ Some p → Covers p.kind → Holds w n → w.is_open ≡ true → MakesFault F w r n c
-      → Faults F p (input_schemas (shape_of w) p) (sent_to (sent_at w) p) c ⊎ Overflows F p (input_schemas (shape_of w) p) (sent_to (sent_at w) p)
+      → Faults F p (input_schemas (shape_of w) p) (sent_to (sent_at w) p) c ⊎ Overflows F p (input_schemas (shape_of w) p) (sent_to (sent_at w) p) c
   pub progresses : (w : World) (n : ℕ) (p : PhysicalNode) → Facts w → slice_get (shape_of w) n ≡ Some p → Covers p.kind → Holds w n → w.ending ≡ running → Progresses F w n
   pub ports : (s : World) (n : ℕ) (p : PhysicalNode) → Facts s → slice_get (shape_of s) n ≡ Some p → Covers p.kind → Holds s n → IsSettled s → EndsAgree s → PortLaw s n
   -- updates and fills keep it too

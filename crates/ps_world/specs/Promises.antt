@@ -1,17 +1,18 @@
 -- What is promised of every reached world.
-use Rattle.std.specs.Prelude.{◌≡◌, ℕ, ◌+◌, ◌*◌, ◌≤◌, ◌⊎◌, Bool, ◌&&◌, List, [], length, Some, get_or, slice_get, Contains, IsFalse, IsTrue}
-use Rattle.std.specs.List.{count_by}
+use Rattle.std.specs.Prelude.{◌≡◌, ℕ, ◌+◌, ◌*◌, ◌≤◌, ◌⊎◌, Bool, ◌&&◌, List, [], length, Some, get_or, slice_get, Contains, IsFalse, IsTrue, None}
+use Rattle.std.specs.List.{count_by, list_all}
 use Rattle.std.specs.Prelude.{nat_eq, nat_le}
 use Rattle.ps_frame.specs.Causes.{Cause}
 use Rattle.ps_frame.specs.Functions.{Functions}
 use Rattle.ps_frame.specs.Tables.{IsWhole, Row, Table}
 use Rattle.ps_meaning.specs.Shape.{PhysicalBrokenBy, PhysicalIsLarge, PhysicalMeans, PhysicalNode, Shape, in_memory_sink, negative_slice, streaming_slice}
 use Rattle.ps_turns.specs.Ends.{IsShort}
+use Rattle.ps_turns.specs.Results.{rows_fault}
 use Rattle.ps_meaning.specs.Cases.{end_of}
-use Rattle.ps_world.specs.Claims.{inputs_in_phase, next_morsel}
+use Rattle.ps_world.specs.Claims.{claim_at, inputs_in_phase, next_morsel}
 use Rattle.ps_world.specs.Pipes.{is_input}
-use Rattle.ps_world.specs.World.{Node, Record, World, claimed, faulty, finished, handed_in, in_flight, counts_for_sender, Pipe, running}
-use Rattle.ps_world.specs.Step.{Steps}
+use Rattle.ps_world.specs.World.{Node, Record, World, claimed, ended, faulty, finished, handed_in, in_flight, counts_for_sender, is_cut_off, opened, Pipe, running}
+use Rattle.ps_world.specs.Step.{Replays, Steps}
 use Rattle.ps_world.specs.Laws.{AllDone, IsOut, MayStep, ServedByChoice, sent_at}
 
 -- a number that is claimed, or handed in, by a node of an input
@@ -29,14 +30,24 @@ IsClaimedOnce w =
     (n k : ℕ) (p : PhysicalNode) → slice_get (Rattle.ps_world.specs.World.shape_of w) n ≡ Some p → p.inputs ≡ []
     → (count_by (is_claim_of n 0 k) w.journal ≤ 1) × (count_by (is_hand_in_of n 0 k) w.journal ≤ count_by (is_claim_of n 0 k) w.journal)
 
+-- Where a phase ends, every number that was claimed was handed in.
+abbrev pub HandsAllIn : Functions → World → Type 0
+HandsAllIn F w =
+    (phase : ℕ) (v : World) → Steps F w (ended phase) v → (n i k : ℕ) → count_by (is_hand_in_of n i k) w.journal ≡ count_by (is_claim_of n i k) w.journal
+
+-- And a node of that phase without inputs that isn't cut off has no number left to claim.
+abbrev pub ClaimsAll : Functions → World → Type 0
+ClaimsAll F w =
+    (phase : ℕ) (v : World) (n : ℕ) (node : Node) → Steps F w (ended phase) v → slice_get w.nodes n ≡ Some node → node.node.inputs ≡ [] → IsTrue node.in_phase → IsFalse (is_cut_off w n) → claim_at w n 0 node ≡ None
+
 -- the rows in the sink are those of a whole table that its node means
 abbrev pub HoldsMeaning : Functions → Shape → World → Type 0
 HoldsMeaning F shape w =
     (n : ℕ) (p : PhysicalNode) → slice_get shape n ≡ Some p → p.kind ≡ in_memory_sink → (T : Table) × PhysicalMeans F shape n T × IsWhole T × ((sent_at w n 0).rows ≡ T.rows)
 
--- a cause breaks a node of its origin in some meaning, or such a node is large
+-- a cause breaks the node that made it in some meaning, or it says that this node has too many rows, and it is large
 abbrev pub NamesCause : Functions → Shape → Cause → Type 0
-NamesCause F shape c = (n : ℕ) × (p : PhysicalNode) × (slice_get shape n ≡ Some p) × (PhysicalBrokenBy F shape n c ⊎ PhysicalIsLarge F shape n)
+NamesCause F shape c = (n : ℕ) × (p : PhysicalNode) × (slice_get shape n ≡ Some p) × (c.node ≡ p.origin) × (PhysicalBrokenBy F shape n c ⊎ (c ≡ rows_fault p) × PhysicalIsLarge F shape n)
 
 abbrev pub IsAnswered : Functions → Shape → World → Type 0
 IsAnswered F shape w = (w.ending ≡ finished → HoldsMeaning F shape w × AllDone w) × ((c : Cause) → w.ending ≡ faulty c → NamesCause F shape c)
@@ -69,3 +80,13 @@ DropsAtLast F w =
 -- A satisfied slice halts what feeds it alone: such a node claims nothing in this phase.
 abbrev pub Halts : Functions → World → Type 0
 Halts F w = (n input number worker : ℕ) (v : World) → IsSpared w n → ¬ Steps F w (claimed n input number worker) v
+
+-- And it claims nothing to the end of the phase: no Open and no End stands among the records that follow.
+abbrev pub within_phase : Record → Bool
+within_phase (opened phase) = Bool.false
+within_phase (ended phase) = Bool.false
+within_phase r = Bool.true
+
+abbrev pub StaysHalted : Functions → World → Type 0
+StaysHalted F w =
+    (rs : List Record) (u v : World) (n input number worker : ℕ) → IsTrue (list_all within_phase rs) → Replays F w rs u → IsSpared w n → ¬ Steps F u (claimed n input number worker) v

@@ -1,5 +1,5 @@
 -- A run that a fault ended names a cause by which its node is broken in some meaning, or a node that is large.
-use Rattle.std.proofs.Common.{◌≡◌, ℕ, ◌⊎◌, Bool, true, false, Some, refl, subst, inl, inr}
+use Rattle.std.proofs.Common.{◌≡◌, ℕ, ◌⊎◌, Bool, true, false, Some, refl, ap, subst, inl, inr}
 use Rattle.std.specs.Prelude.{slice_get, not, ◌&&◌}
 use Rattle.ps_frame.specs.Causes.{Cause}
 use Rattle.ps_frame.specs.Functions.{Functions}
@@ -19,11 +19,11 @@ first_true false b e = e
 module _ (F : Functions) (Facts : World → Type 0) (Holds : World → ℕ → Type 0) (facts : FactsLaw F Facts) (law : FamilyLaw F AnyKind Facts Holds) where
   -- what a node's law says of a fault in a world names a cause of the shape
   names_at : (shape : Shape) (w : World) (n : ℕ) (p : PhysicalNode) (c : Cause) → Keeps F Facts Holds facts law shape w → slice_get (shape_of w) n ≡ Some p
-      → Faults F p (input_schemas (shape_of w) p) (sent_to (sent_at w) p) c ⊎ Overflows F p (input_schemas (shape_of w) p) (sent_to (sent_at w) p) → NamesCause F shape c
+      → Faults F p (input_schemas (shape_of w) p) (sent_to (sent_at w) p) c ⊎ Overflows F p (input_schemas (shape_of w) p) (sent_to (sent_at w) p) c → NamesCause F shape c
   names_at shape w n p c k e (inl f) =
-      (n, p, subst (λ x. slice_get x n ≡ Some p) k.same e, inl (subst (λ x. PhysicalBrokenBy F x n c) k.same (faulty_is_broken F (shape_of w) (sent_at w) (facts.forward w k.known) (all_justified F Facts Holds facts law shape w k) n p c e f)))
+      (n, p, subst (λ x. slice_get x n ≡ Some p) k.same e, f.0, inl (subst (λ x. PhysicalBrokenBy F x n c) k.same (faulty_is_broken F (shape_of w) (sent_at w) (facts.forward w k.known) (all_justified F Facts Holds facts law shape w k) n p c e f.1)))
   names_at shape w n p c k e (inr o) =
-      (n, p, subst (λ x. slice_get x n ≡ Some p) k.same e, inr (subst (λ x. PhysicalIsLarge F x n) k.same (large_by F (shape_of w) (sent_at w) (facts.forward w k.known) (all_justified F Facts Holds facts law shape w k) n p e o)))
+      (n, p, subst (λ x. slice_get x n ≡ Some p) k.same e, ap (λ (x : Cause). x.node) o.0, inr (o.0, subst (λ x. PhysicalIsLarge F x n) k.same (large_by F (shape_of w) (sent_at w) (facts.forward w k.known) (all_justified F Facts Holds facts law shape w k) n p e o.1)))
 
   -- each node keeps its family's invariant
   held : (shape : Shape) (w : World) (n : ℕ) (p : PhysicalNode) → Keeps F Facts Holds facts law shape w → slice_get (shape_of w) n ≡ Some p → Holds w n

@@ -6,11 +6,11 @@ use Rattle.std.proofs.lemmas.Option.{slice_get-get_or, slice_get_within}
 use Rattle.ps_frame.specs.Causes.{Cause}
 use Rattle.ps_frame.specs.Functions.{Functions}
 use Rattle.ps_frame.specs.Tables.{no_rows, Table}
-use Rattle.ps_meaning.specs.Shape.{as_step, IsPhysicalChoice, itself, multiplexer, PhysicalBefore, PhysicalBrokenBy, PhysicalCase, PhysicalIsLarge, PhysicalNode, Shape, tables_for, through}
+use Rattle.ps_meaning.specs.Shape.{as_step, IsLargeByStep, IsPhysicalChoice, itself, multiplexer, PhysicalBefore, PhysicalBrokenBy, PhysicalCase, PhysicalIsLarge, PhysicalNode, Shape, tables_for, through}
 use Rattle.ps_meaning.specs.Sound.{input_schemas, schema_at}
 use Rattle.std.proofs.lemmas.Bool.Decides.{nat_tests}
 use Rattle.std.proofs.lemmas.Bool.{cases_lt}
-use Rattle.ps_world.specs.Laws.{Sent, Extends, sent_to, AllJustified, ServedByChoice, IsForward, Faults, Overflows}
+use Rattle.ps_world.specs.Laws.{Sent, Extends, sent_to, AllJustified, ServedByChoice, IsForward, BreaksWhatever, IsLargeWhatever}
 use Rattle.world_laws.proofs.InOrder.{contains_cases, contains_first, contains_later, none_in_nil}
 use Rattle.ps_frame.specs.Aggregates.{max_rows}
 
@@ -139,7 +139,7 @@ module _ (F : Functions) (shape : Shape) (sent : ℕ → ℕ → Sent) where
         }
 
     -- and a node that faults is broken by that cause in some meaning
-    pub faulty_is_broken : (n : ℕ) (p : PhysicalNode) (c : Cause) → slice_get shape n ≡ Some p → Faults F p (input_schemas shape p) (sent_to sent p) c → PhysicalBrokenBy F shape n c
+    pub faulty_is_broken : (n : ℕ) (p : PhysicalNode) (c : Cause) → slice_get shape n ≡ Some p → BreaksWhatever F p (input_schemas shape p) (sent_to sent p) c → PhysicalBrokenBy F shape n c
     faulty_is_broken n p c e faults =
         let b = build (length shape) (omega arith) in
         let within = slice_get_within shape n p e in
@@ -149,7 +149,7 @@ module _ (F : Functions) (shape : Shape) (sent : ℕ → ℕ → Sent) where
         (b.choice, (λ m q e'. (b.fits m q (slice_get_within shape m q e') e').case), within, u.0, inr (p, e, u.1), u.2)
 
     -- and one that overflows is large, by its own table or by that of an input
-    pub large_by : (n : ℕ) (p : PhysicalNode) → slice_get shape n ≡ Some p → Overflows F p (input_schemas shape p) (sent_to sent p) → PhysicalIsLarge F shape n
+    pub large_by : (n : ℕ) (p : PhysicalNode) → slice_get shape n ≡ Some p → IsLargeWhatever F p (input_schemas shape p) (sent_to sent p) → PhysicalIsLarge F shape n
     large_by n p e over =
         let b = build (length shape) (omega arith) in
         let within = slice_get_within shape n p e in
@@ -172,6 +172,7 @@ module _ (F : Functions) (shape : Shape) (sent : ℕ → ℕ → Sent) where
 
         of_overflow : (n : ℕ) (p : PhysicalNode) (e : slice_get shape n ≡ Some p) (choice : ℕ → Table) → IsPhysicalChoice F shape choice → n < length shape → AllByRecursion (λ (i : ℕ × ℕ). i.0 < n) p.inputs
             → ((U : Table) × PhysicalBefore F p (as_step p.kind) (tables_for F p.kind (map (λ (i : ℕ × ℕ). choice i.0) p.inputs)) U × (max_rows < length U.rows)) ⊎ ((T : Table) × Contains (map (λ (i : ℕ × ℕ). choice i.0) p.inputs) T × (max_rows < length T.rows))
-            → PhysicalIsLarge F shape n
+            ⊎ IsLargeByStep F p.origin (as_step p.kind) (tables_for F p.kind (map (λ (i : ℕ × ℕ). choice i.0) p.inputs)) → PhysicalIsLarge F shape n
         of_overflow n p e choice chosen within early (inl u) = (choice, chosen, n, within, itself, inl (u.0, inr (p, e, u.1), u.2))
-        of_overflow n p e choice chosen within early (inr t) = of_input n p e choice chosen within t.0 p.inputs (λ i c. c) early t.1 t.2
+        of_overflow n p e choice chosen within early (inr (inr l)) = (choice, chosen, n, within, itself, inr (p, e, l))
+        of_overflow n p e choice chosen within early (inr (inl t)) = of_input n p e choice chosen within t.0 p.inputs (λ i c. c) early t.1 t.2

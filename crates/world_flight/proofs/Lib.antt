@@ -1,0 +1,4 @@
+pub mod Pigeons
+pub mod Few
+pub mod Paid
+pub mod Halted
