@@ -3,3 +3,4 @@ pub mod Ends
 pub mod Changes
 pub mod Turns
 pub mod Rest
+pub mod Passes

@@ -14,9 +14,6 @@ use Rattle.ps_settle.proofs.Ends.{answered-receive_other, answered-send_other, d
 use Rattle.ps_settle.proofs.Members.{at_both, at_map, contains_at, item_at, map_at, same_items, set_here, set_other}
 use Rattle.ps_settle.proofs.Turns.{EndsAgree, answer_is, as_before, follows_in, follows_out, kept_twice, same_by, sends, sends_stay}
 
-nobody : ℕ → Type 0
-nobody n = ⊥
-
 -- one list of updates after another
 pub after : {N : Type 0} (rank : N → ℕ) (Update : N → Sides → N → Sides → Type 0) (s t u : Standing N) → Updates rank Update s t → Updates rank Update t u → Updates rank Update s u
 after rank Update s t u no_update more = more

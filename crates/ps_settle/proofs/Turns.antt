@@ -34,12 +34,12 @@ kept_is_new port.Blocked new e = refl
 kept_is_new port.Ready new e = refl
 kept_is_new port.Done new e = absurd (let no : true ≡ false = e in cc)
 
-kept_is_old : (old new : PortState) → is_done old ≡ true → kept_state old new ≡ old
+pub kept_is_old : (old new : PortState) → is_done old ≡ true → kept_state old new ≡ old
 kept_is_old port.Done new e = refl
 kept_is_old port.Ready new e = absurd (let no : false ≡ true = e in cc)
 kept_is_old port.Blocked new e = absurd (let no : false ≡ true = e in cc)
 
-kept_state_twice : (old new : PortState) → kept_state (kept_state old new) new ≡ kept_state old new
+pub kept_state_twice : (old new : PortState) → kept_state (kept_state old new) new ≡ kept_state old new
 kept_state_twice port.Done new = refl
 kept_state_twice port.Ready port.Blocked = refl
 kept_state_twice port.Ready port.Ready = refl

@@ -1,0 +1,6 @@
+pub mod Marking
+pub mod Shown
+pub mod Linked
+pub mod Ends
+pub mod Origins
+pub mod Turning
