@@ -1,7 +1,6 @@
 -- Errors of later updates are errors after the ones before.
-use Rattle.std.proofs.Common.{◌≡◌, ℕ, ◌⊎◌, List, Option, Some, refl, sym, ap, subst, ◌∙◌, inl, inr}
+use Rattle.std.proofs.Common.{◌≡◌, ℕ, List, Some, sym, ap, ◌∙◌, inl, inr}
 use Rattle.std.specs.Prelude.{slice_get}
-use Rattle.keyed_slots.specs.Slots.{value_at}
 use Rattle.pu_base.specs.declared.arena.Node.{Node}
 use Rattle.ps_frame.specs.declared.refusal.PolarsError.{PolarsError}
 use Rattle.ps_ports.specs.Ports.{Sides}
@@ -9,7 +8,7 @@ use Rattle.ps_ports.specs.Wires.{given_to}
 use Rattle.ps_settle.specs.Standings.{Standing, Updates, no_update}
 use Rattle.ps_settle.proofs.Rest.{after}
 use Rattle.ps_graph.specs.declared.graph.GraphNode.{GraphNode}
-use Rattle.ps_graph.specs.Turning.{FaultsAfter, MayFail, NodeFails}
+use Rattle.ps_graph.specs.Turning.{MayFail, NodeFails}
 
 module _ {N : Type 0} (rank : N → ℕ) (Update : N → Sides → N → Sides → Type 0) (Faults : N → Sides → PolarsError → Type 0) where
   -- at once

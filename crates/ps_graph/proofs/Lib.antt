@@ -9,3 +9,4 @@ pub mod Turned
 pub mod Failing
 pub mod Sweeping
 pub mod MarkLemmas
+pub mod Growing

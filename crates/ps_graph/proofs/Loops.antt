@@ -1,5 +1,5 @@
 -- The loops over a node's keys, one key more.
-use Rattle.std.proofs.Common.{◌≡◌, ℕ, ◌+◌, ◌<◌, ◌⊎◌, Bool, List, [], ◌∷◌, ◌++◌, length, take, Option, Some, None, get_or, refl, sym, ap, subst, ◌∙◌, arith}
+use Rattle.std.proofs.Common.{◌≡◌, ℕ, ◌+◌, ◌<◌, Bool, List, length, take, Option, Some, None, get_or, sym, subst, ◌∙◌}
 use Rattle.std.specs.Prelude.{IsTrue, slice_get, slice_set}
 use Rattle.keyed_slots.specs.Slots.{value_at}
 use Rattle.ps_ports.specs.declared.port_state.PortState.{PortState}

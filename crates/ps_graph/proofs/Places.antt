@@ -1,9 +1,8 @@
 -- Slots that all have a value, and the places of those that pass a test.
-use Rattle.std.proofs.Common.{◌≡◌, ◌≢◌, ℕ, suc, zero, ◌+◌, ◌<◌, ◌⊎◌, Bool, true, false, cond, List, [], ◌∷◌, length, Option, Some, None, refl, sym, ap, subst, ◌∙◌, inl, inr, arith}
-use Rattle.std.specs.Prelude.{Contains, IsTrue, ◌||◌, ◌&&◌, count_by, is_some, map, nat_eq, nat_lt, slice_get}
+use Rattle.std.proofs.Common.{◌≡◌, ℕ, suc, zero, ◌+◌, ◌<◌, Bool, true, false, cond, List, [], ◌∷◌, length, Option, Some, None, refl, sym, ap, subst, ◌∙◌, arith}
+use Rattle.std.specs.Prelude.{IsTrue, ◌||◌, ◌&&◌, count_by, is_some, nat_eq, slice_get}
 use Rattle.std.specs.List.{filter as kept, list_all}
 use Rattle.std.proofs.lemmas.List.Sums.{length-filter}
-use Rattle.std.proofs.lemmas.Option.{slice_get_within}
 use Rattle.keyed_slots.specs.Slots.{value_at}
 use Rattle.ps_frame.specs.Sorting.{in_order, insert_in_order}
 use Rattle.ps_ports.specs.Phases.{is_one_of}

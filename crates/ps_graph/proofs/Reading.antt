@@ -1,14 +1,13 @@
 -- What a node is given, read off its pipes by their ports.
-use Rattle.std.proofs.Common.{◌≡◌, ◌≢◌, ℕ, ◌+◌, ◌<◌, ◌⊎◌, Bool, true, false, List, [], ◌∷◌, ◌++◌, length, Option, Some, None, refl, sym, ap, subst, ◌∙◌, inl, inr, arith}
-use Rattle.std.specs.Prelude.{Contains, IsTrue, ◌||◌, map, nat_eq, nat_lt, slice_get, slice_set}
+use Rattle.std.proofs.Common.{◌≡◌, ◌≢◌, ℕ, ◌<◌, ◌⊎◌, Bool, true, false, List, [], ◌∷◌, ◌++◌, length, Option, Some, refl, sym, ap, subst, ◌∙◌, inl, inr, arith}
+use Rattle.std.specs.Prelude.{Contains, IsTrue, ◌||◌, nat_eq, nat_lt, slice_get, slice_set}
 use Rattle.std.specs.List.{filter as kept}
 use Rattle.std.proofs.lemmas.Bool.{cases_eq}
 use Rattle.std.proofs.lemmas.Option.{slice_get_within}
 use Rattle.keyed_slots.specs.Slots.{value_at}
-use Rattle.ps_frame.specs.Zip.{below}
 use Rattle.ps_ports.specs.declared.port_state.PortState.{PortState}
 use Rattle.ps_ports.specs.Phases.{is_one_of}
-use Rattle.ps_ports.specs.Wires.{IsWired, Wire, given_to, wires_in, wires_out}
+use Rattle.ps_ports.specs.Wires.{Wire, given_to, wires_in, wires_out}
 use Rattle.ps_settle.proofs.Ends.{is_in, is_number, is_out, same_number, has_in, has_out}
 use Rattle.ps_settle.proofs.Members.{at_both, at_map, contains_at, item_at, kept-map, length_map, map_at, number_at, place_of, same_items, set_here, set_other}
 use Rattle.ps_graph.specs.declared.end.End.{End}
@@ -17,7 +16,7 @@ use Rattle.ps_graph.specs.declared.graph.LogicalPipe.{LogicalPipe}
 use Rattle.ps_graph.specs.declared.key.LogicalPipeKey.{LogicalPipeKey}
 use Rattle.ps_graph.specs.Ends.{AreAt, other_state, place_at}
 use Rattle.ps_graph.specs.Linked.{AreKeysOf}
-use Rattle.ps_graph.specs.Shown.{are_there, is_from, is_to, numbers, places_from, values, wire_of, wires_of}
+use Rattle.ps_graph.specs.Shown.{is_from, is_to, numbers, values, wire_of, wires_of}
 use Rattle.ps_graph.proofs.Places.{is_place, length_in_order, length_places, place_test, value_there}
 use Rattle.ps_graph.proofs.Telling.{one_more-cases}
 

@@ -1,7 +1,6 @@
 -- An answer that is written to the pipes of a list of keys, one key more.
-use Rattle.std.proofs.Common.{◌≡◌, ◌≢◌, ℕ, suc, zero, ◌+◌, ◌<◌, ◌⊎◌, Bool, true, false, cond, List, [], ◌∷◌, ◌++◌, length, Option, Some, None, get_or, refl, sym, ap, subst, ◌∙◌, inl, inr, arith}
-use Rattle.std.specs.Prelude.{IsTrue, ◌||◌, map, nat_eq, slice_get, slice_set}
-use Rattle.std.specs.List.{list_any}
+use Rattle.std.proofs.Common.{◌≡◌, ◌≢◌, ℕ, suc, zero, ◌<◌, ◌⊎◌, Bool, true, false, List, [], ◌∷◌, ◌++◌, length, Option, Some, None, get_or, refl, sym, ap, subst, ◌∙◌, inl, inr}
+use Rattle.std.specs.Prelude.{IsTrue, ◌||◌, nat_eq, slice_get, slice_set}
 use Rattle.std.proofs.lemmas.Bool.{cases_eq}
 use Rattle.std.proofs.lemmas.Option.{get_or_from_slice_get}
 use Rattle.keyed_slots.specs.Slots.{value_at}
@@ -15,7 +14,7 @@ use Rattle.ps_settle.proofs.Turns.{kept_state_twice}
 use Rattle.ps_graph.specs.declared.end.End.{End}
 use Rattle.ps_graph.specs.declared.end.End.TheVariants as at
 use Rattle.ps_graph.specs.declared.graph.LogicalPipe.{LogicalPipe}
-use Rattle.ps_graph.specs.Ends.{AreAt, Told, TellsOne, other_node, other_state, own_state, place_at, says, with_own}
+use Rattle.ps_graph.specs.Ends.{AreAt, Told, TellsOne, other_node, own_state, place_at, says}
 
 pub value_set : {A : Type 0} (xs : List (Option A)) (i : ℕ) (x y : A) → value_at xs i ≡ Some x → value_at (slice_set xs i (Some y)) i ≡ Some y
 value_set [] i x y e = absurd (let clash : None ≡ Some x = e in cc)

@@ -1,26 +1,23 @@
 -- A graph after one update of one node: it is linked and wired as before, and stands as that update left it.
-use Rattle.std.proofs.Common.{◌≡◌, ◌≢◌, ℕ, suc, zero, ◌+◌, ◌<◌, ◌^◌, ◌⊎◌, Bool, true, false, cond, List, [], ◌∷◌, length, Option, Some, None, refl, sym, ap, subst, ◌∙◌, inl, inr, arith}
-use Rattle.std.specs.Prelude.{Contains, IsTrue, is_some, map, nat_eq, slice_get, slice_set}
-use Rattle.std.specs.List.{list_all}
+use Rattle.std.proofs.Common.{◌≡◌, ℕ, suc, zero, ◌+◌, ◌<◌, ◌^◌, ◌⊎◌, Bool, true, false, cond, List, [], ◌∷◌, length, Option, Some, None, refl, sym, ap, subst, ◌∙◌, inl, inr}
+use Rattle.std.specs.Prelude.{IsTrue, map, nat_eq, slice_get, slice_set}
 use Rattle.std.proofs.lemmas.Bool.{cases_eq}
-use Rattle.std.proofs.lemmas.Option.{slice_get_within}
 use Rattle.keyed_slots.specs.Slots.{value_at}
 use Rattle.ps_frame.specs.Zip.{below}
-use Rattle.pu_base.specs.declared.arena.Node.{Node}
 use Rattle.ps_ports.specs.Ports.{Sides}
 use Rattle.ps_ports.specs.Wires.{IsWired, Wire, given_to, wires_in, wires_out, written}
-use Rattle.ps_settle.specs.Standings.{Standing, updated}
+use Rattle.ps_settle.specs.Standings.{updated}
 use Rattle.ps_settle.specs.Sweeps.{answered}
 use Rattle.ps_settle.proofs.Ends.{alike_in, alike_out, answered-joins, joins, wires_in-map, wires_out-map}
-use Rattle.ps_settle.proofs.Members.{at_both, at_map, contains_at, item_at, length_map, map_at, place_of, same_items}
+use Rattle.ps_settle.proofs.Members.{at_map, contains_at, length_map, map_at, place_of}
 use Rattle.ps_settle.proofs.Passes.{length_set}
 use Rattle.ps_graph.specs.declared.graph.Graph.{Graph}
 use Rattle.ps_graph.specs.declared.graph.GraphNode.{GraphNode}
 use Rattle.ps_graph.specs.declared.graph.LogicalPipe.{LogicalPipe}
 use Rattle.ps_graph.specs.Linked.{AreKeysOf, JoinAlike, joined}
-use Rattle.ps_graph.specs.Shown.{CanRun, IsLinked, are_there, is_from, is_to, nodes_of, numbers, places_from, standing_of, values, wire_of, wires_of}
+use Rattle.ps_graph.specs.Shown.{CanRun, are_there, nodes_of, numbers, places_from, standing_of, values, wires_of}
 use Rattle.ps_graph.specs.Turning.{origins_of}
-use Rattle.ps_graph.proofs.Places.{length_there, value_there}
+use Rattle.ps_graph.proofs.Places.{value_there}
 use Rattle.ps_graph.proofs.Telling.{value_other, value_set}
 
 -- wires with an answer are wired as before

@@ -1,21 +1,19 @@
 -- An answer that is written to the pipes out of a node and then to those into it: the wires afterwards, and who is told.
-use Rattle.std.proofs.Common.{◌≡◌, ◌≢◌, ℕ, suc, zero, ◌+◌, ◌<◌, ◌⊎◌, Bool, true, false, cond, List, [], ◌∷◌, length, Option, Some, None, get_or, refl, sym, ap, subst, ◌∙◌, inl, inr, arith}
-use Rattle.std.specs.Prelude.{Contains, IsTrue, map, nat_eq, slice_get}
-use Rattle.std.proofs.lemmas.Option.{slice_get_within}
+use Rattle.std.proofs.Common.{◌≡◌, ℕ, suc, zero, ◌<◌, ◌⊎◌, Bool, true, false, List, [], ◌∷◌, length, Option, Some, None, get_or, refl, sym, ap, subst, ◌∙◌, inl, inr, arith}
+use Rattle.std.specs.Prelude.{IsTrue, map, nat_eq, slice_get}
 use Rattle.keyed_slots.specs.Slots.{value_at}
-use Rattle.ps_ports.specs.declared.port_state.PortState.{PortState}
 use Rattle.ps_ports.specs.Phases.{is_one_of}
 use Rattle.ps_ports.specs.Ports.{Sides, kept_state}
 use Rattle.ps_ports.specs.Wires.{Wire, received, sent, written}
 use Rattle.ps_settle.specs.Sweeps.{TellsReaders, TellsSenders, answered}
 use Rattle.ps_settle.proofs.Ends.{answered-receive, answered-send, is_number}
-use Rattle.ps_settle.proofs.Members.{at_both, at_map, contains_at, item_at, length_map, map_at, map_twice, place_of, same_items}
+use Rattle.ps_settle.proofs.Members.{at_both, at_map, contains_at, item_at, length_map, map_at, same_items}
 use Rattle.ps_graph.specs.declared.end.End.TheVariants as at
 use Rattle.ps_graph.specs.declared.graph.LogicalPipe.{LogicalPipe}
 use Rattle.ps_graph.specs.declared.key.LogicalPipeKey.{LogicalPipeKey}
 use Rattle.ps_graph.specs.Ends.{Told, says}
 use Rattle.ps_graph.specs.Linked.{AreKeysOf, JoinAlike, joined}
-use Rattle.ps_graph.specs.Shown.{are_there, is_from, is_to, numbers, places_from, values, wire_of, wires_of}
+use Rattle.ps_graph.specs.Shown.{are_there, is_from, is_to, numbers, values, wire_of, wires_of}
 use Rattle.ps_graph.proofs.Places.{all_there, length_there, place_test, value_there}
 use Rattle.ps_graph.proofs.Reading.{key_in, key_out}
 

@@ -4,3 +4,4 @@ pub mod Linked
 pub mod Ends
 pub mod Origins
 pub mod Turning
+pub mod Adding

@@ -1,5 +1,4 @@
 -- Errors at the node from which a node of the graph comes.
-use Rattle.std.specs.Prelude.{ℕ}
 use Rattle.pu_base.specs.declared.arena.Node.{Node}
 use Rattle.ps_frame.specs.declared.refusal.PolarsError.{PolarsError}
 use Rattle.ps_frame.specs.declared.refusal.PolarsError.TheVariants as error

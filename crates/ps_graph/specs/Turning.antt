@@ -1,6 +1,5 @@
 -- One update of one node of a graph, and which errors updates may give.
 use Rattle.std.specs.Prelude.{◌≡◌, ◌≢◌, ℕ, ◌⊎◌, Bool, true, false, List, Option, Some, map, slice_get, slice_set}
-use Rattle.keyed_slots.specs.Slots.{value_at}
 use Rattle.pu_base.specs.declared.arena.Node.{Node}
 use Rattle.ps_frame.specs.declared.refusal.PolarsError.{PolarsError}
 use Rattle.ps_frame.specs.declared.refusal.PolarsError.TheVariants as error

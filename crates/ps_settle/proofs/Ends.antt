@@ -1,5 +1,5 @@
 -- The ends of wires: what an answer changes, what it leaves, and how a node's own ends stand afterwards.
-use Rattle.std.proofs.Common.{◌≡◌, ◌≢◌, ℕ, zero, suc, ◌<◌, Bool, true, false, cond, List, [], ◌∷◌, length, Some, None, get_or, refl, sym, ap, subst, ◌∙◌, arith}
+use Rattle.std.proofs.Common.{◌≡◌, ◌≢◌, ℕ, zero, suc, Bool, true, false, cond, List, [], ◌∷◌, length, Some, None, get_or, refl, sym, ap, ◌∙◌, arith}
 use Rattle.std.specs.Prelude.{Contains, map, nat_eq, nat_lt, slice_get}
 use Rattle.std.specs.List.{filter as kept}
 use Rattle.std.proofs.lemmas.Bool.Decides.{nat_tests}

@@ -1,14 +1,14 @@
 -- Sweeps over the marked nodes, up and down: one turn more, both ends, and what both together cost.
-use Rattle.std.proofs.Common.{◌≡◌, ◌≢◌, ℕ, zero, suc, ◌+◌, ◌*◌, ◌<◌, ◌≤◌, ◌⊎◌, Bool, true, false, List, [], ◌∷◌, length, Some, None, refl, sym, ap, subst, ◌∙◌, inl, inr, arith}
-use Rattle.std.specs.Prelude.{Contains, IsTrue, map, slice_get, slice_set}
+use Rattle.std.proofs.Common.{◌≡◌, ◌≢◌, ℕ, zero, suc, ◌+◌, ◌*◌, ◌<◌, ◌≤◌, ◌⊎◌, Bool, true, false, List, [], ◌∷◌, length, refl, sym, ap, subst, ◌∙◌, inl, inr, arith}
+use Rattle.std.specs.Prelude.{Contains, IsTrue, slice_set}
 use Rattle.std.proofs.lemmas.Bool.{cases_eq}
 use Rattle.std.proofs.Math.Nat.{mul-le-mul_left}
 use Rattle.std.proofs.lemmas.Option.{slice_get_within}
 use Rattle.ps_ports.specs.Ports.{Sides}
 use Rattle.ps_ports.specs.UpdateLaws.{KeepsUpdateLaws, update_limit}
-use Rattle.ps_ports.specs.Wires.{IsWired, Wire, given_to, written}
+use Rattle.ps_ports.specs.Wires.{IsWired, Wire, given_to}
 use Rattle.ps_settle.specs.Standings.{IsSettled, Standing, Updates, no_update, one_update, updated}
-use Rattle.ps_settle.specs.Sweeps.{MarksIf, OthersLeft, OthersSend, SendsLeft, Swept, SweptDown, SweptUp, TakesOff, Turned, WasLeft, answered, either, left, nobody}
+use Rattle.ps_settle.specs.Sweeps.{MarksIf, OthersLeft, OthersSend, Swept, SweptDown, SweptUp, TakesOff, Turned, answered, either, left, nobody}
 use Rattle.ps_settle.proofs.Changes.{left_at_most, left_less, same_stage}
 use Rattle.ps_settle.proofs.Members.{length_map}
 use Rattle.ps_settle.proofs.Rest.{after, no_word, others_left, others_send, settled}

@@ -1,17 +1,15 @@
 -- A whole graph: both ends agree where all nodes send as they were left, no node marked means rest, and what one update keeps of the others.
-use Rattle.std.proofs.Common.{◌≡◌, ◌≢◌, ℕ, ◌+◌, ◌<◌, ◌≤◌, ◌⊎◌, Bool, true, false, List, length, Some, None, refl, sym, ap, subst, ◌∙◌, inl, inr, arith}
-use Rattle.std.specs.Prelude.{Contains, map, slice_get, slice_set}
+use Rattle.std.proofs.Common.{◌≡◌, ◌≢◌, ℕ, ◌≤◌, ◌⊎◌, length, Some, refl, sym, ap, subst, ◌∙◌, inl, inr, arith}
+use Rattle.std.specs.Prelude.{Contains, slice_get, slice_set}
 use Rattle.std.proofs.lemmas.Bool.{cases_eq}
-use Rattle.std.proofs.lemmas.Option.{slice_get_within}
-use Rattle.ps_ports.specs.declared.port_state.PortState.{PortState}
 use Rattle.ps_ports.specs.Ports.{Sides, is_done, keeping_done}
 use Rattle.ps_ports.specs.UpdateLaws.{KeepsUpdateLaws}
-use Rattle.ps_ports.specs.Wires.{IsWired, Wire, given_to, said_by, wires_in, wires_out, written}
+use Rattle.ps_ports.specs.Wires.{IsWired, Wire, given_to, said_by, written}
 use Rattle.ps_settle.specs.Standings.{IsSettled, Standing, Updates, no_update, one_update, updated}
 use Rattle.ps_settle.specs.Sweeps.{OthersLeft, OthersSend, SendsLeft, WasLeft, answered, left}
 use Rattle.ps_settle.proofs.Changes.{same_ends, same_stage}
-use Rattle.ps_settle.proofs.Ends.{answered-receive_other, answered-send_other, done_outputs_stay, given_inputs_stay, given_outputs_stay, given_own, has_in, has_out, said_other, said_own}
-use Rattle.ps_settle.proofs.Members.{at_both, at_map, contains_at, item_at, map_at, same_items, set_here, set_other}
+use Rattle.ps_settle.proofs.Ends.{answered-receive_other, answered-send_other, done_outputs_stay, given_inputs_stay, given_outputs_stay, given_own, said_other, said_own}
+use Rattle.ps_settle.proofs.Members.{at_both, item_at, set_here, set_other}
 use Rattle.ps_settle.proofs.Turns.{EndsAgree, answer_is, as_before, follows_in, follows_out, kept_twice, same_by, sends, sends_stay}
 
 -- one list of updates after another

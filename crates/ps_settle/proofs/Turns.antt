@@ -1,18 +1,16 @@
 -- One update of one node: who stands afterwards as an update left it, and how a graph of which all do has come to rest.
-use Rattle.std.proofs.Common.{◌≡◌, ◌≢◌, ℕ, zero, suc, ◌+◌, ◌<◌, ◌≤◌, ◌⊎◌, Bool, true, false, cond, List, [], ◌∷◌, length, Some, None, get_or, refl, sym, ap, subst, ◌∙◌, inl, inr, arith}
-use Rattle.std.specs.Prelude.{Contains, IsTrue, map, slice_get, slice_set}
-use Rattle.std.proofs.lemmas.Bool.{cases_eq}
+use Rattle.std.proofs.Common.{◌≡◌, ℕ, ◌⊎◌, Bool, true, false, List, [], ◌∷◌, length, Some, get_or, refl, sym, ap, ◌∙◌, inl, inr, arith}
+use Rattle.std.specs.Prelude.{Contains, IsTrue, map, slice_get}
 use Rattle.std.proofs.lemmas.Option.{get_or_from_slice_get, slice_get_within}
 use Rattle.ps_ports.specs.declared.port_state.PortState.{PortState}
 use Rattle.ps_ports.specs.declared.port_state.PortState.TheVariants as port
-use Rattle.ps_ports.specs.Ports.{Sides, is_done, kept_done, kept_state, keeping_done}
-use Rattle.ps_ports.specs.UpdateLaws.{AgreeApartFromDone, KeepsUpdateLaws, MakesNoneDone, StayDone}
+use Rattle.ps_ports.specs.Ports.{Sides, is_done, kept_done, kept_state}
+use Rattle.ps_ports.specs.UpdateLaws.{KeepsUpdateLaws, MakesNoneDone, StayDone}
 use Rattle.ps_ports.specs.Wires.{IsWired, Wire, given_to, said_by, wires_in, wires_out}
-use Rattle.ps_settle.specs.Standings.{IsSettled, Standing, updated}
-use Rattle.ps_settle.specs.Sweeps.{OthersLeft, OthersSend, SendsLeft, WasLeft, answered, left}
-use Rattle.ps_settle.proofs.Changes.{same_ends, same_stage}
-use Rattle.ps_settle.proofs.Ends.{answered-receive_other, answered-send, answered-send_other, done_outputs_stay, given_inputs_stay, given_outputs_stay, given_own, has_in, has_out, is_in, is_out, kept-at, said_other, said_own}
-use Rattle.ps_settle.proofs.Members.{at_both, at_map, contains_at, item_at, length_map, map_at, number_at, place_of, same_items, set_here, set_other}
+use Rattle.ps_settle.specs.Standings.{Standing}
+use Rattle.ps_settle.specs.Sweeps.{SendsLeft, WasLeft, answered}
+use Rattle.ps_settle.proofs.Ends.{answered-send, has_in, has_out, is_in, is_out, kept-at}
+use Rattle.ps_settle.proofs.Members.{at_both, at_map, contains_at, item_at, length_map, map_at, number_at, place_of, same_items}
 
 is_the_done : (s : PortState) → is_done s ≡ true → s ≡ port.Done
 is_the_done port.Done e = refl

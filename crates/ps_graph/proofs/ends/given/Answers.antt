@@ -1,5 +1,5 @@
 -- Each key's pipe is at a port of the node, and reading goes on by one key.
-use Rattle.std.proofs.Common.{◌≡◌, ◌<◌, ℕ, length, take, Some, None, get_or, sym, ap, subst, ◌∙◌, rules, arith}
+use Rattle.std.proofs.Common.{◌≡◌, ◌<◌, length, take, Some, None, get_or, sym, subst, rules}
 use Rattle.std.specs.Prelude.{IsTrue, slice_set}
 use Rattle.keyed_slots.specs.Slots.{value_at}
 use Rattle.ps_ports.specs.Phases.{is_one_of}

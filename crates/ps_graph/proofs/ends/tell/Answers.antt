@@ -2,7 +2,7 @@
 use Rattle.std.proofs.Common.{◌≡◌, Some, None, get_or, sym, ap, subst, ◌∙◌, rules}
 use Rattle.keyed_slots.specs.Slots.{SlotList, value_at}
 use Rattle.ps_graph.specs.declared.graph.LogicalPipe.{LogicalPipe}
-use Rattle.ps_graph.specs.Ends.{TellsOne, says}
+use Rattle.ps_graph.specs.Ends.{TellsOne}
 use Rattle.ps_graph.specs.Marking.{is_marked}
 use Rattle.ps_graph.proofs.Loops.{never_none, port_inside, tell_more}
 use Rattle.ps_graph.proofs.ends.tell.Goals as goal

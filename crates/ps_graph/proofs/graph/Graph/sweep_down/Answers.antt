@@ -1,9 +1,8 @@
 -- A sweep begins, goes on by one turn, and is over; each step is a turn of another node.
-use Rattle.std.proofs.Common.{◌≡◌, ◌<◌, ◌≤◌, ◌+◌, ℕ, length, refl, sym, ap, subst, ◌∙◌, arith}
-use Rattle.std.specs.Prelude.{IsTrue}
+use Rattle.std.proofs.Common.{◌<◌, ◌+◌, refl, sym, subst, ◌∙◌, arith}
 use Rattle.ps_settle.proofs.Passes.{down_more, down_start}
 use Rattle.ps_graph.specs.Marking.{is_marked}
-use Rattle.ps_graph.specs.Shown.{nodes_of, standing_of}
+use Rattle.ps_graph.specs.Shown.{standing_of}
 use Rattle.ps_graph.specs.Turning.{origins_of}
 use Rattle.ps_graph.proofs.Failing.{fails_later}
 use Rattle.ps_graph.proofs.Sweeping.{down_over}

@@ -1,10 +1,8 @@
 -- All nodes are marked at first; each two sweeps lead on, or to rest.
-use Rattle.std.proofs.Common.{◌≡◌, ◌<◌, ◌≤◌, ◌+◌, ℕ, true, false, length, refl, sym, ap, subst, ◌∙◌, arith}
-use Rattle.std.specs.Prelude.{IsTrue}
-use Rattle.ps_ports.specs.UpdateLaws.{update_limit}
+use Rattle.std.proofs.Common.{◌≡◌, ◌+◌, true, false, refl, sym, ◌∙◌, arith}
 use Rattle.ps_settle.proofs.Passes.{at_rest, begun_within, both_swept, down_reached, down_within, first_marks, half_within, less, of_later, up_reached, up_within}
 use Rattle.ps_graph.specs.Marking.{is_marked}
-use Rattle.ps_graph.specs.Shown.{nodes_of, standing_of, wires_of}
+use Rattle.ps_graph.specs.Shown.{standing_of}
 use Rattle.ps_graph.specs.Turning.{origins_of}
 use Rattle.ps_graph.proofs.Failing.{fails_later}
 use Rattle.ps_graph.proofs.Turned.{limit_slots, nodes_long}

@@ -1,5 +1,4 @@
 -- A set without keys has none, and one with a key has that.
-use Rattle.std.proofs.Common.{sym, ◌∙◌}
 use Rattle.ps_graph.proofs.MarkLemmas.{no_keys, none_marked, some_marked}
 use Rattle.ps_graph.proofs.marks.Marks.is_empty.Goals as goal
 
