@@ -1,0 +1,12 @@
+pub mod Telling
+pub mod Keys
+pub mod Places
+pub mod Reading
+pub mod Loops
+pub mod Writing
+pub mod Turning
+pub mod Turned
+pub mod Failing
+pub mod Sweeping
+pub mod MarkLemmas
+pub mod Growing

@@ -1,0 +1,13 @@
+//! Graphs of nodes over pipes: how they are put together, how the states of their ports come to rest, and which part of them may run next.
+#![tactic(auto)]
+
+pub mod adding;
+pub mod compute_node;
+pub mod end;
+mod ends;
+pub mod graph;
+pub mod key;
+pub mod marks;
+mod origins;
+mod turns;
+pub mod update;
