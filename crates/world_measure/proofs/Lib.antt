@@ -1,0 +1,10 @@
+mod OrderEnds
+mod Falls
+mod Pipes
+mod ZipRows
+mod Own
+mod Drops
+mod Takes
+mod Answers
+mod Closes
+mod Phase

@@ -1,0 +1,4 @@
+pub mod Order
+pub mod Left
+pub mod Runs
+pub mod Examples
