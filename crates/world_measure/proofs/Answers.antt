@@ -70,17 +70,17 @@ partial_own q w (Some x) e j =
     let filled = record x.progress { taken = filled_slot q.input q.number (get_or q.tables 0 []) x.progress.taken } in
     ap (λ o. own_left_at (put_progress o q.node filled w) j) e ∙ set_as_much w.nodes q.node x (record x { progress = filled }) e (kept_counts x.node.kind x.progress (filled_slot q.input q.number (get_or q.tables 0 []) x.progress.taken)) j
 
-put_nodes : (q : Piece) (a : Answer) (w : World) → length (put_in q a w).nodes ≡ length w.nodes
+pub put_nodes : (q : Piece) (a : Answer) (w : World) → length (put_in q a w).nodes ≡ length w.nodes
 put_nodes q (good rs) w = refl
 put_nodes q (partial n) w = partial_nodes q w (slice_get w.nodes q.node) refl
 put_nodes q (bad c) w = refl
 
-put_pipes : (q : Piece) (a : Answer) (w : World) (j : ℕ) → untaken_by j (put_in q a w).pipes ≡ untaken_by j w.pipes
+pub put_pipes : (q : Piece) (a : Answer) (w : World) (j : ℕ) → untaken_by j (put_in q a w).pipes ≡ untaken_by j w.pipes
 put_pipes q (good rs) w j = answer_as_many q.gives rs (λ p. nat_eq p.wire.sender q.node && counts_for_sender w p) w.pipes j
 put_pipes q (partial n) w j = partial_pipes q w (slice_get w.nodes q.node) refl j
 put_pipes q (bad c) w j = refl
 
-put_own : (q : Piece) (a : Answer) (w : World) (j : ℕ) → own_left_at (put_in q a w) j ≡ own_left_at w j
+pub put_own : (q : Piece) (a : Answer) (w : World) (j : ℕ) → own_left_at (put_in q a w) j ≡ own_left_at w j
 put_own q (good rs) w j = refl
 put_own q (partial n) w j = partial_own q w (slice_get w.nodes q.node) refl j
 put_own q (bad c) w j = refl

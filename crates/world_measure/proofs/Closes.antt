@@ -39,12 +39,12 @@ none_of : {A : Type 0} (t : A → Bool) (g : A → A) (xs : List A) → ((x : A)
 none_of t g [] e = refl
 none_of t g (x ∷ xs) e = let a = count_first t (g x) (map g xs) in let none = one_if (t (g x)) false (e x) in let rest = none_of t g xs e in omega (arith, a, none, rest)
 
-mapped_length : {A B : Type 0} (g : A → B) (xs : List A) → length (map g xs) ≡ length xs
+pub mapped_length : {A B : Type 0} (g : A → B) (xs : List A) → length (map g xs) ≡ length xs
 mapped_length g [] = refl
 mapped_length g (x ∷ xs) = ap suc (mapped_length g xs)
 
 -- CLOSES
-closed_pipe : (j : ℕ) (p : Pipe) (b : Bool) → untaken_at j (cond b (record p { is_closed = true }) p) ≡ untaken_at j p
+pub closed_pipe : (j : ℕ) (p : Pipe) (b : Bool) → untaken_at j (cond b (record p { is_closed = true }) p) ≡ untaken_at j p
 closed_pipe j p true = refl
 closed_pipe j p false = refl
 
@@ -64,7 +64,7 @@ closes_fall F w v n s =
     never false = refl
 
 -- ENDS
-unmarked_own : (nodes : List Node) (j : ℕ) → own_left_of (slice_get (map (λ (x : Node). record x { in_phase = false; is_closed = false }) nodes) j) ≡ own_left_of (slice_get nodes j)
+pub unmarked_own : (nodes : List Node) (j : ℕ) → own_left_of (slice_get (map (λ (x : Node). record x { in_phase = false; is_closed = false }) nodes) j) ≡ own_left_of (slice_get nodes j)
 unmarked_own [] j = refl
 unmarked_own (x ∷ xs) zero = refl
 unmarked_own (x ∷ xs) (suc j) = unmarked_own xs j

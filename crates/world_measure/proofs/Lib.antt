@@ -8,3 +8,6 @@ mod Takes
 mod Answers
 mod Closes
 mod Phase
+mod Changes
+mod Kept
+mod OverPhases

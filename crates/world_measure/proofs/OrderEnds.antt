@@ -1,5 +1,5 @@
 -- Lists of numbers go down finitely often: by induction on their length, then on the first number, then on what goes down from the rest.
-use Rattle.std.proofs.Common.{◌≡◌, ℕ, zero, suc, ◌<◌, List, [], ◌∷◌, ◌++◌, length, refl, sym, ap, subst, ◌∙◌, inl, inr, arith}
+use Rattle.std.proofs.Common.{◌≡◌, ℕ, zero, suc, ◌<◌, ◌⊎◌, List, [], ◌∷◌, ◌++◌, length, refl, sym, ap, subst, ◌∙◌, inl, inr, arith}
 use Rattle.std.proofs.lemmas.List.{length-append}
 use Rattle.world_measure.specs.Order.{Ends, IsLess, ends}
 
@@ -62,3 +62,17 @@ behind_same (a ∷ ls) xs ys less = inr (refl, behind_same ls xs ys less)
 
 pub back_less : (ls bs xs ys : List ℕ) → ls ≡ bs → IsLess xs ys → IsLess (ls ++ xs) (bs ++ ys)
 back_less ls bs xs ys e less = subst (λ cs. IsLess (ls ++ xs) (cs ++ ys)) e (behind_same ls xs ys less)
+
+-- what is less than no more is less
+less_than_less : (ls ms ns : List ℕ) → IsLess ls ms → IsLess ms ns → IsLess ls ns
+less_than_less [] ms ns wrong h = absurd wrong
+less_than_less (a ∷ ls) [] ns wrong h = absurd wrong
+less_than_less (a ∷ ls) (b ∷ ms) [] less wrong = absurd wrong
+less_than_less (a ∷ ls) (b ∷ ms) (c ∷ ns) (inl (x, s)) (inl (y, t)) = inl (omega arith, s ∙ t)
+less_than_less (a ∷ ls) (b ∷ ms) (c ∷ ns) (inl (x, s)) (inr (y, less)) = inl (omega arith, s ∙ same_length ms ns less)
+less_than_less (a ∷ ls) (b ∷ ms) (c ∷ ns) (inr (x, less)) (inl (y, t)) = inl (omega arith, same_length ls ms less ∙ t)
+less_than_less (a ∷ ls) (b ∷ ms) (c ∷ ns) (inr (x, less)) (inr (y, h)) = inr (x ∙ y, less_than_less ls ms ns less h)
+
+pub less_after : (ns ms ls : List ℕ) → IsLess ms ns ⊎ (ms ≡ ns) → IsLess ls ms → IsLess ls ns
+less_after ns ms ls (inl less) h = less_than_less ls ms ns h less
+less_after ns ms ls (inr same) h = subst (IsLess ls) same h

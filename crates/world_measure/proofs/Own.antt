@@ -8,16 +8,17 @@ use Rattle.ps_meaning.specs.Shape.{PhysicalKind, PhysicalNode, equi_join, filter
 use Rattle.ps_meaning.specs.Steps.{JoinStep, Named}
 use Rattle.ps_meaning.specs.Joins.{fills_right}
 use Rattle.ps_options.specs.declared.options.Options.{Options}
-use Rattle.ps_turns.specs.Claims.{Claim, Next, claim_by, of_join, of_kept, of_last, of_left, of_made, of_parts, of_reduce, of_source, owes_last, passes}
+use Rattle.ps_turns.specs.Claims.{Claim, Next, claim_by, of_join, of_kept, of_last, of_left, of_made, of_parts, of_reduce, of_source, owes_last, passes, with_kept}
 use Rattle.ps_turns.specs.Cuts.{cuts_of, is_exhausted, morsel_size}
 use Rattle.ps_turns.specs.Heads.{Head, heads_by, stored_inputs}
 use Rattle.ps_turns.specs.Progress.{Progress, Stage, giving, spent, taking}
 use Rattle.world_measure.proofs.ZipRows.{zip_falls}
+use Rattle.world_measure.specs.Turns.{turns_of}
 use Rattle.world_measure.specs.Left.{cuts_left, made_left, own_left}
 
 pub data Does (kind : PhysicalKind) (a : Progress) (next : Next) (c : Claim) : Type 0 where
-  takes : (m : ℕ × List Row) → next ≡ Some m → c.takes_morsel ≡ true → Does kind a next c
-  gives : c.takes_morsel ≡ false → own_left kind c.progress < own_left kind a → Does kind a next c
+  takes : (m : ℕ × List Row) → next ≡ Some m → c.takes_morsel ≡ true → turns_of c.progress ≡ turns_of a → Does kind a next c
+  gives : c.takes_morsel ≡ false → own_left kind c.progress < own_left kind a → turns_of c.progress ≡ turns_of a → Does kind a next c
 
 -- TESTS
 of_first : (b : Bool) (x : Option Claim) (c : Claim) → cond b x None ≡ Some c → x ≡ Some c
@@ -74,7 +75,7 @@ module _ (o : Options) (p : PhysicalNode) (ss : List Fields) (a : Progress) (ds 
       let before = left a.sent in
       let after = left (a.sent + 1) in
       let less = fewer_cuts o rs a.sent r.0 in
-      subst (λ x. Does kind a next x) r.1 (gives refl (omega arith))
+      subst (λ x. Does kind a next x) r.1 (gives refl (omega arith) refl)
 
   made : (kind : PhysicalKind) → ((x : Progress) → own_left kind x ≡ made_left x.made x.sent) → (st : Stage) (mk : Option (List Row)) → a.made ≡ mk → of_made o p ss a st mk ≡ Some c → Does kind a next c
   made kind left giving (Some rs) e q = of_cuts kind rs (λ k. left (record a { sent = k }) ∙ ap (λ mk. made_left mk k) e) q
@@ -84,35 +85,40 @@ module _ (o : Options) (p : PhysicalNode) (ss : List Fields) (a : Progress) (ds 
 
   kept : (kind : PhysicalKind) → (n : Next) → next ≡ n → of_kept o p ss i a n ≡ Some c → Does kind a next c
   kept kind None e q = absurd (let no : None ≡ Some c = q in cc)
-  kept kind (Some m) e q = subst (λ x. Does kind a next x) (the_claim _ c q) (takes m e refl)
+  kept kind (Some m) e q = subst (λ x. Does kind a next x) (the_claim _ c q) (takes m e refl refl)
 
   reduced : (es : List Named) (st : Stage) → of_reduce o p ss st i a next ≡ Some c → Does (reduce es) a next c
   reduced es taking q = kept (reduce es) next refl q
   reduced es giving q =
       let r = only_if (nat_eq a.sent 0) _ c (of_first (nat_eq i 0) _ c q) in
-      subst (λ x. Does (reduce es) a next x) r.1 (gives refl (one_less a.sent r.0))
+      subst (λ x. Does (reduce es) a next x) r.1 (gives refl (one_less a.sent r.0) refl)
   reduced es spent q = absurd (let no : None ≡ Some c = q in cc)
 
   parted : (keys aggregates : List Named) (st : Stage) → of_parts o p ss st i a next ≡ Some c → Does (group_by_node keys aggregates) a next c
   parted keys aggregates taking q = kept (group_by_node keys aggregates) next refl q
   parted keys aggregates giving q =
       let r = only_if (nat_lt a.sent (length a.lists)) _ c (of_first (nat_eq i 0) _ c q) in
-      subst (λ x. Does (group_by_node keys aggregates) a next x) r.1 (gives refl (part_less a.sent (length a.lists) r.0))
+      subst (λ x. Does (group_by_node keys aggregates) a next x) r.1 (gives refl (part_less a.sent (length a.lists) r.0) refl)
   parted keys aggregates spent q = absurd (let no : None ≡ Some c = q in cc)
 
-  passed : (kind : PhysicalKind) → ((m : ℕ × List Row) → (passes o p ss kind a m.0 m.1).takes_morsel ≡ true) → (n : Next) → next ≡ n → option_map (λ m. passes o p ss kind a m.0 m.1) n ≡ Some c → Does kind a next c
-  passed kind t None e q = absurd (let no : None ≡ Some c = q in cc)
-  passed kind t (Some m) e q = subst (λ x. Does kind a next x) (the_claim _ c q) (takes m e (t m))
+  passed : (kind : PhysicalKind) → ((m : ℕ × List Row) → (passes o p ss kind a m.0 m.1).takes_morsel ≡ true) → ((m : ℕ × List Row) → turns_of (passes o p ss kind a m.0 m.1).progress ≡ turns_of a) → (n : Next) → next ≡ n → option_map (λ m. passes o p ss kind a m.0 m.1) n ≡ Some c → Does kind a next c
+  passed kind t u None e q = absurd (let no : None ≡ Some c = q in cc)
+  passed kind t u (Some m) e q = subst (λ x. Does kind a next x) (the_claim _ c q) (takes m e (t m) (u m))
+
+-- a join that keeps its left morsels stays in its stage
+left_turns : (j : JoinStep) (rs : List Row) (a : Progress) (b : Bool) → turns_of (cond b (record a { taken = with_kept 0 rs a.taken }) a) ≡ turns_of a
+left_turns j rs a true = refl
+left_turns j rs a false = refl
 
 joined : (o : Options) (p : PhysicalNode) (ss : List Fields) (a : Progress) (d : Bool) (i : ℕ) (next : Next) (c : Claim) (j : JoinStep) (st : Stage) → of_join o p ss j st d i a next ≡ Some c → Does (equi_join j) a next c
 joined o p ss a d zero next c j taking q = absurd (let no : None ≡ Some c = q in cc)
 joined o p ss a d (suc i) next c j taking q = kept o p ss a [] (suc i) next c (equi_join j) next refl q
-joined o p ss a d zero (Some m) c j giving q = subst (λ x. Does (equi_join j) a (Some m) x) (the_claim (of_left o p ss j a m.0 m.1) c q) (takes m refl refl)
+joined o p ss a d zero (Some m) c j giving q = subst (λ x. Does (equi_join j) a (Some m) x) (the_claim (of_left o p ss j a m.0 m.1) c q) (takes m refl refl (left_turns j m.1 a (fills_right j.args.how)))
 joined o p ss a d zero None c j giving q =
     let r = only_if (d && owes_last j a) (of_last o p ss j a) c q in
     let owed = both d (fills_right j.args.how && nat_eq a.sent 0) r.0 in
     let first = both (fills_right j.args.how) (nat_eq a.sent 0) owed.1 in
-    subst (λ x. Does (equi_join j) a None x) r.1 (gives refl (one_less a.sent first.1))
+    subst (λ x. Does (equi_join j) a None x) r.1 (gives refl (one_less a.sent first.1) refl)
 joined o p ss a d (suc i) next c j giving q = absurd (let no : None ≡ Some c = q in cc)
 joined o p ss a d i next c j spent q = absurd (let no : None ≡ Some c = q in cc)
 
@@ -121,22 +127,22 @@ module _ (o : Options) (p : PhysicalNode) (ss : List Fields) (a : Progress) (hs 
   does (in_memory_source t) heads q = of_cuts o p ss a ds i next c (in_memory_source t) t.rows (λ k. refl) (of_first (nat_eq i 0) _ c q)
   does (independent_select es) heads q =
       let r = only_if (nat_eq a.sent 0) _ c (of_first (nat_eq i 0) _ c q) in
-      subst (λ x. Does (independent_select es) a next x) r.1 (gives refl (one_less a.sent r.0))
+      subst (λ x. Does (independent_select es) a next x) r.1 (gives refl (one_less a.sent r.0) refl)
   does (in_memory_map step) heads q = made o p ss a ds i next c (in_memory_map step) (λ x. refl) a.stage a.made refl (of_first (nat_eq i 0) _ c q)
   does (in_memory_join j) heads q = made o p ss a ds i next c (in_memory_join j) (λ x. refl) a.stage a.made refl (of_first (nat_eq i 0) _ c q)
   does (negative_slice back n) heads q = made o p ss a ds i next c (negative_slice back n) (λ x. refl) a.stage a.made refl (of_first (nat_eq i 0) _ c q)
   does (zip_node extend) heads q =
       let r = only_if _ _ c (of_first (nat_eq i 0) _ c q) in
-      subst (λ x. Does (zip_node extend) a next x) r.1 (gives refl (zip_falls extend a.booked ds a.stores hs (heads extend refl) r.0))
+      subst (λ x. Does (zip_node extend) a next x) r.1 (gives refl (zip_falls extend a.booked ds a.stores hs (heads extend refl) r.0) refl)
   does (reduce es) heads q = reduced o p ss a ds i next c es a.stage q
   does (group_by_node keys aggregates) heads q = parted o p ss a ds i next c keys aggregates a.stage q
   does (equi_join j) heads q = joined o p ss a (get_or ds 0 false) i next c j a.stage q
   does in_memory_sink heads q = absurd (let no : None ≡ Some c = q in cc)
   does multiplexer heads q = absurd (let no : None ≡ Some c = q in cc)
-  does ordered_union heads q = passed o p ss a ds i next c ordered_union (λ m. refl) next refl q
-  does (select_node es extends) heads q = passed o p ss a ds i next c (select_node es extends) (λ m. refl) next refl q
-  does (filter_node e) heads q = passed o p ss a ds i next c (filter_node e) (λ m. refl) next refl q
-  does (simple_projection names) heads q = passed o p ss a ds i next c (simple_projection names) (λ m. refl) next refl q
-  does (stream_map step) heads q = passed o p ss a ds i next c (stream_map step) (λ m. refl) next refl q
-  does (with_row_index name offset) heads q = passed o p ss a ds i next c (with_row_index name offset) (λ m. refl) next refl q
-  does (streaming_slice offset n) heads q = passed o p ss a ds i next c (streaming_slice offset n) (λ m. refl) next refl q
+  does ordered_union heads q = passed o p ss a ds i next c ordered_union (λ m. refl) (λ m. refl) next refl q
+  does (select_node es extends) heads q = passed o p ss a ds i next c (select_node es extends) (λ m. refl) (λ m. refl) next refl q
+  does (filter_node e) heads q = passed o p ss a ds i next c (filter_node e) (λ m. refl) (λ m. refl) next refl q
+  does (simple_projection names) heads q = passed o p ss a ds i next c (simple_projection names) (λ m. refl) (λ m. refl) next refl q
+  does (stream_map step) heads q = passed o p ss a ds i next c (stream_map step) (λ m. refl) (λ m. refl) next refl q
+  does (with_row_index name offset) heads q = passed o p ss a ds i next c (with_row_index name offset) (λ m. refl) (λ m. refl) next refl q
+  does (streaming_slice offset n) heads q = passed o p ss a ds i next c (streaming_slice offset n) (λ m. refl) (λ m. refl) next refl q

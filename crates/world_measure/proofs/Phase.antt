@@ -15,6 +15,7 @@ use Rattle.world_facts.proofs.Wiring.{wires_forward}
 use Rattle.world_laws.proofs.InOrder.{contains_map}
 use Rattle.world_measure.proofs.Answers.{hand_ins_fall}
 use Rattle.world_measure.proofs.Closes.{closes_fall, ends_fall}
+use Rattle.world_measure.proofs.Falls.{work_falls}
 use Rattle.world_measure.proofs.OrderEnds.{ends_by_measure}
 use Rattle.world_measure.proofs.Pipes.{LeadOn}
 use Rattle.world_measure.proofs.Takes.{claims_fall, pulls_fall}
@@ -22,14 +23,14 @@ use Rattle.world_measure.specs.Left.{left_to_do}
 use Rattle.world_measure.specs.Order.{Ends, IsLess}
 use Rattle.world_measure.specs.Runs.{StepsInPhase, opens}
 
-onward : (F : Functions) (w : World) → Facts F w → LeadOn w.pipes
+pub onward : (F : Functions) (w : World) → Facts F w → LeadOn w.pipes
 onward F w f p c = wires_forward F w f p.wire (contains_map (λ (x : Pipe). x.wire) p w.pipes c)
 
 pub steps_fall : (F : Functions) (w v : World) (r : Record) → Facts F w → IsFalse (opens r) → Steps F w r v → IsLess (left_to_do v) (left_to_do w)
 steps_fall F w v (opened phase) f e s = absurd (let no : true ≡ false = e in cc)
-steps_fall F w v (claimed n i number worker) f e s = claims_fall F w (onward F w f) n i number worker v s
+steps_fall F w v (claimed n i number worker) f e s = work_falls w v (claims_fall F w (onward F w f) n i number worker v s)
 steps_fall F w v (handed_in n i number worker handed) f e s = hand_ins_fall F w v n i number worker handed s
-steps_fall F w v (pulled n i number) f e s = pulls_fall F w (onward F w f) n i number v s
+steps_fall F w v (pulled n i number) f e s = work_falls w v (pulls_fall F w (onward F w f) n i number v s)
 steps_fall F w v (closed n) f e s = closes_fall F w v n s
 steps_fall F w v (ended phase) f e s = ends_fall F w v phase s
 

@@ -8,7 +8,7 @@ use Rattle.ps_meaning.specs.Shape.{in_memory_sink, in_memory_source}
 use Rattle.ps_options.specs.declared.options.Options.{Options}
 use Rattle.ps_ports.specs.declared.port_state.PortState.TheVariants as port
 use Rattle.ps_turns.specs.Claims.{Claim}
-use Rattle.ps_turns.specs.Progress.{Progress}
+use Rattle.ps_turns.specs.Progress.{Progress, giving}
 use Rattle.ps_world.specs.Claims.{after_claim, claim_at}
 use Rattle.ps_world.specs.Opening.{fresh_node, fresh_pipe, no_progress}
 use Rattle.ps_world.specs.World.{Node, Pipe, World, running}
@@ -74,3 +74,11 @@ zipped = record (no_progress 2) { booked = 1; stores = ((row 1 ∷ row 2 ∷ [])
 -- one morsel was taken, one waits, and one is to come
 abbrev pub half_taken : Pipe
 half_taken = record the_pipe { got = Some (row 1 ∷ []) ∷ Some (row 2 ∷ []) ∷ None ∷ []; next = 1 }
+
+-- its sender is done, its reader isn't yet
+abbrev pub done_pipe : Pipe
+done_pipe = record the_pipe { wire = record the_pipe.wire { send_state = port.Done } }
+
+-- a node that gives the table that it made
+abbrev pub made : Progress
+made = record (no_progress 1) { stage = giving; made = Some (row 1 ∷ []) }

@@ -1,5 +1,5 @@
 // What is left to do falls at each step of a phase, as theorems of functions that do nothing.
-ghost use Rattle.std.specs.Prelude.{◌≡◌, [], ◌∷◌, IsFalse, List, true, ℕ};
+ghost use Rattle.std.specs.Prelude.{◌≡◌, ◌⊎◌, [], ◌∷◌, IsFalse, List, true, ℕ};
 ghost use Rattle.ps_frame.specs.Functions.{Functions};
 ghost use Rattle.ps_meaning.specs.Shape.{Shape, zip_node};
 ghost use Rattle.ps_meaning.specs.Sound.{IsSound};
