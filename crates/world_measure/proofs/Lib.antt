@@ -1,0 +1,13 @@
+mod OrderEnds
+mod Falls
+mod Pipes
+mod ZipRows
+mod Own
+mod Drops
+mod Takes
+mod Answers
+mod Closes
+mod Phase
+mod Changes
+mod Kept
+mod OverPhases
