@@ -11,3 +11,4 @@ mod Phase
 mod Changes
 mod Kept
 mod OverPhases
+mod RunsEnd

@@ -33,7 +33,7 @@ no_more w v h = by h.turn
         split (inr more) = let c : changes_left v ≡ changes_left w = omega arith in let n = nodes_same w v h.nodes h.pipes own in inr (λ i. c i ∷ n i)
 
 module _ (F : Functions) (w v : World) (k : Known F w) where
-  taken_less : (r : Record) → IsTrue (takes r) → Steps F w r v → IsLess (left_over_phases v) (left_over_phases w)
+  pub taken_less : (r : Record) → IsTrue (takes r) → Steps F w r v → IsLess (left_over_phases v) (left_over_phases w)
   taken_less (claimed n i number worker) e s = inr (claims_keep F w n i number worker v s, claims_fall F w (onward F w k.facts) n i number worker v s)
   taken_less (pulled n i number) e s = inr (pulls_keep F w n i number v s, pulls_fall F w (onward F w k.facts) n i number v s)
   taken_less (opened phase) e s = absurd (let no : false ≡ true = e in cc)

@@ -2,4 +2,5 @@ pub mod Order
 pub mod Left
 pub mod Runs
 pub mod Turns
+pub mod Driving
 pub mod Examples
