@@ -88,11 +88,11 @@ fn given(alloc: Global, columns: &str, nodes: &str) -> Result<String, Fail> {
     names_beside(alloc, root, nodes, &exprs)
 }
 
-// The text with `__POLARS_STMP_` for each `T`.
+// The text with `__POLARS_STMP_` for each `@`.
 fn spelled(alloc: Global, text: &str) -> Result<String, Fail> {
     let mut spelled = String::new(alloc);
     for c in text.chars() {
-        if c == 'T' {
+        if c == '@' {
             spelled.push_str("__POLARS_STMP_")?;
         } else {
             spelled.push(c)?;
@@ -101,18 +101,18 @@ fn spelled(alloc: Global, text: &str) -> Result<String, Fail> {
     Ok(spelled)
 }
 
-// The columns of the table, nodes, and behind `->` the first three names, where `T` stands for `__POLARS_STMP_`.
+// The columns of the table, nodes, and behind `->` the first three names, where `@` stands for `__POLARS_STMP_`.
 const CASES: &str = r#"
-a,b : ["scan",0,null] -> T0,T1,T2
-a,T0 : ["scan",0,null] -> T1,T2,T3
-T2,a,T1 : ["scan",0,null] -> T0,T3,T4
-a,T1,T0 : ["scan",0,["a"]] -> T2,T3,T4
-a,b : ["scan",0,null] ["select",0,[["T1",0]]] -> T0,T2,T3
-a,b : ["scan",0,null] ["select",0,[["T0",0]]] ["select",0,[["x",0]]] -> T0,T1,T2
-a,T00,T01,T : ["scan",0,null] -> T0,T1,T2
-a,T+0,T-1,T 2,xT0 : ["scan",0,null] -> T0,T1,T2
-a,T18446744073709551615,T18446744073709551616 : ["scan",0,null] -> T0,T1,T2
-T7,T5,a,T6,T0,T1,T2,T3,T4,T9 : ["scan",0,null] -> T8,T10,T11
+a,b : ["scan",0,null] -> @0,@1,@2
+a,@0 : ["scan",0,null] -> @1,@2,@3
+@2,a,@1 : ["scan",0,null] -> @0,@3,@4
+a,@1,@0 : ["scan",0,["a"]] -> @2,@3,@4
+a,b : ["scan",0,null] ["select",0,[["@1",0]]] -> @0,@2,@3
+a,b : ["scan",0,null] ["select",0,[["@0",0]]] ["select",0,[["x",0]]] -> @0,@1,@2
+a,@00,@01,@ : ["scan",0,null] -> @0,@1,@2
+a,@+0,@-1,@ 2,x@0 : ["scan",0,null] -> @0,@1,@2
+a,@18446744073709551615,@18446744073709551616 : ["scan",0,null] -> @0,@1,@2
+@7,@5,a,@6,@0,@1,@2,@3,@4,@9 : ["scan",0,null] -> @8,@10,@11
 "#;
 
 #[test]
