@@ -1,0 +1,3 @@
+pub mod GroupRunSteps
+pub mod MapRunSteps
+pub mod Spared

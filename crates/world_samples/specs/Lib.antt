@@ -1,0 +1,3 @@
+pub mod GroupRun
+pub mod MapRun
+pub mod SmallWorlds

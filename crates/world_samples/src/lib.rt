@@ -1,0 +1,5 @@
+// Two whole runs, and small worlds.
+#![tactic(auto)]
+
+pub mod runs;
+pub mod small_worlds;
