@@ -1,0 +1,4 @@
+pub mod Causes
+pub mod Columns
+pub mod Steps
+pub mod Sources
