@@ -1,0 +1,9 @@
+mod Tests
+mod Stored
+mod ZipClaims
+mod Reasons
+mod Back
+mod InPhase
+mod Waits
+mod NotIdle
+mod Endless
