@@ -1,0 +1,9 @@
+pub mod Tests
+pub mod Stored
+pub mod ZipClaims
+pub mod Reasons
+pub mod Back
+pub mod InPhase
+pub mod Waits
+pub mod NotIdle
+pub mod Endless
