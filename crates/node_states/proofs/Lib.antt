@@ -1,0 +1,6 @@
+mod Walks
+mod Steps
+mod Answered
+mod HeadLemmas
+mod HeadsSeen
+mod Ceilings

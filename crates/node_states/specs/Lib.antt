@@ -1,0 +1,7 @@
+pub mod Stages
+pub mod Views
+pub mod Heads
+pub mod Pipes
+pub mod States
+pub mod Samples
+pub mod Lines
