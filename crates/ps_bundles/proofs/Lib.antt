@@ -1,0 +1,2 @@
+pub mod ZipEnds
+pub mod ExprEnds
