@@ -1,24 +1,21 @@
 -- Elementwise expressions over a table that ends as the zip of columns end as they do over these.
-use Rattle.std.proofs.Common.{◌≡◌, ◌≢◌, ◌⊎◌, inl, inr, ℕ, zero, suc, ◌≤◌, ◌<◌, Bool, true, false, not, cond, List, [], ◌∷◌, ◌++◌, length, get_or, Some, refl, sym, ap, subst, ◌∙◌, arith}
-use Rattle.std.specs.Prelude.{Contains, IsTrue, map, filter, flat_map, slice_get, ◌==◌, ◌&&◌, ◌||◌}
-use Rattle.std.specs.List.{AllByRecursion, list_any}
+use Rattle.std.proofs.Common.{◌≡◌, ◌≢◌, ◌⊎◌, inl, inr, ℕ, zero, suc, ◌≤◌, ◌<◌, Bool, true, false, not, cond, List, [], ◌∷◌, ◌++◌, length, get_or, refl, sym, ap, subst, ◌∙◌, arith}
+use Rattle.std.specs.Prelude.{Contains, IsTrue, map, filter, flat_map, ◌&&◌, ◌||◌}
+use Rattle.std.specs.List.{AllByRecursion}
 use Rattle.std.proofs.lemmas.Bool.{cases_lt}
 use Rattle.std.proofs.lemmas.List.{length-map}
 use Rattle.ps_frame.specs.Causes.{Cause, Cell, Column, value, faulty_or, cell_causes, is_empty, whole_column}
-use Rattle.ps_frame.specs.Eval.{at as item, literal_value}
-use Rattle.ps_frame.specs.Operators.{binary_value, cast_cell, cast_value, choice_of, not_value}
-use Rattle.ps_frame.specs.Tables.{Table, field_index, table_column, values_at, values_at_some}
+use Rattle.ps_frame.specs.Eval.{literal_value}
+use Rattle.ps_frame.specs.Tables.{Table, table_column, values_at, values_at_some}
 use Rattle.ps_frame.specs.Trees.{Tree}
 use Rattle.ps_frame.specs.Typing.{goes_by_cell, is_elementwise}
-use Rattle.ps_frame.specs.Values.{is_null}
-use Rattle.ps_frame.specs.Zip.{Extent, below, breaks_shape, broadcasts, cell_in_row, ends_early, extent_of, extents, is_faulty_row, row_causes, unseen_causes, zip_length, zipped, Zipped}
+use Rattle.ps_frame.specs.Zip.{Extent, breaks_shape, broadcasts, cell_in_row, ends_early, extent_of, extents, is_faulty_row, row_causes, unseen_causes, zip_length, zipped, Zipped}
 use Rattle.ps_frame.specs.declared.expr.FunctionExpr.{FunctionExpr}
 use Rattle.ps_frame.specs.declared.expr.FunctionExpr.TheVariants as fun
 use Rattle.ps_frame.specs.declared.expr.LiteralValue.{LiteralValue}
 use Rattle.ps_frame.specs.declared.value.Value.{Value}
 use Rattle.ps_frame.specs.declared.value.Value.TheVariants as val
 use Rattle.ps_meaning.proofs.Begins.{append-empty_left, append-empty_right}
-use Rattle.ps_meaning.specs.Cases.{columns_at, table_of}
 use Rattle.ps_meaning.specs.Steps.{Name}
 use Rattle.ps_meaning.specs.Within.{Within}
 use Rattle.ps_shares.specs.CallLaws.{AreRead, IsShownAs, is_end}
@@ -32,7 +29,7 @@ use Rattle.ps_shares.proofs.Ends.{leaves_show_in}
 use Rattle.ps_shares.proofs.FlatLength.{both_hold, ends, moving}
 use Rattle.ps_shares.proofs.Leaves.{Part, IsPart, cells_in, columns_in, leaves_in, least_all, length_over, moves_far, one_extent, part, row_cells, same_length, tree_is}
 use Rattle.ps_shares.proofs.Members.{Has, from_has, members_decide, to_has}
-use Rattle.ps_shares.proofs.Named.{at_all, each_of_all, known_as, names_show, over_columns, some_of_all, table_extent}
+use Rattle.ps_shares.proofs.Named.{each_of_all, known_as, names_show, over_columns, some_of_all, table_extent}
 use Rattle.ps_shares.proofs.Shares.{shows_less}
 use Rattle.ps_shares.proofs.ZipReach.{columns_show_all}
 use Rattle.ps_bundles.specs.Endings.{AreClear, EndAs, Ends, ExpressionsEnd}

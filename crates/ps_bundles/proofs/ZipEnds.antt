@@ -6,9 +6,9 @@ use Rattle.std.proofs.lemmas.Bool.{cases_lt}
 use Rattle.std.proofs.lemmas.Grind.{flat_map-append}
 use Rattle.std.proofs.lemmas.List.{ext_get_or, length-map, map-append}
 use Rattle.std.proofs.lemmas.List.Elements.{filter-append}
-use Rattle.ps_frame.specs.Causes.{Cause, Cell, Column, value, cell_causes, cell_values, column_causes, is_empty, is_ended, whole_column}
+use Rattle.ps_frame.specs.Causes.{Cause, Column, value, cell_causes, cell_values, column_causes, is_empty, is_ended, whole_column}
 use Rattle.ps_frame.specs.Tables.{Fields, Table, column_at, columns_of, no_rows, table_column, values_at}
-use Rattle.ps_frame.specs.Zip.{Extent, below, breaks_shape, broadcasts, cell_in_row, ends_early, extent_of, extents, is_faulty_row, unseen_causes, zip_causes, zip_length, zip_rows, zipped}
+use Rattle.ps_frame.specs.Zip.{Extent, below, breaks_shape, broadcasts, cell_in_row, ends_early, extent_of, extents, is_faulty_row, unseen_causes, zip_length, zipped}
 use Rattle.ps_frame.specs.declared.value.DataFault.TheVariants as data_fault
 use Rattle.ps_frame.specs.declared.value.Value.{Value}
 use Rattle.ps_meaning.proofs.Begins.{append-empty_left, append-empty_right}
@@ -31,10 +31,13 @@ use Rattle.ps_shares.proofs.Shares.{rows_of_zip, zip_shows, zip_whole}
 use Rattle.ps_shares.proofs.Stepped.{keyed_broken, keyed_rows, keyed_whole, those_at}
 use Rattle.ps_shares.proofs.ZipReach.{columns_show_all, zips_reach}
 use Rattle.ps_shares.proofs.ZipShares.{AtLeast, any, ended_moves, first_of, given_ends, given_extent, given_length, known_ends, known_extent, known_length, none_ended, row_count, zips_show}
-use Rattle.ps_bundles.specs.Endings.{AllEnd, EndAs, Ends, InputsEnd, SelectsEnd, ZipsEnd}
+use Rattle.ps_bundles.specs.Endings.{AllEnd, Ends, InputsEnd, SelectsEnd, ZipsEnd}
 
 pub differ : true ≡ false → ⊥
 differ h = cc
+
+pub never_true : (b : Bool) → false ≡ true → b ≡ true
+never_true b h = absurd (differ (sym h))
 
 pub is_none : {A : Type 0} (xs : List A) → is_empty xs ≡ true → xs ≡ []
 is_none [] h = refl
@@ -108,7 +111,7 @@ bare c = record { cells = c.cells; broken = c.broken; lost = [] }
 abbrev bared : List Column → List Column
 bared cs = map bare cs
 
-abbrev lost_in : List Column → List Cause
+abbrev pub lost_in : List Column → List Cause
 lost_in cs = flat_map (λ (c : Column). c.lost) cs
 
 bare_extents : (cs : List Column) → extents (bared cs) ≡ extents cs
@@ -165,7 +168,7 @@ module _ (at : ℕ) (cs : List Column) where
       sym bare_broken ∙ none_by (zipped false at (bared cs)).broken (all_left (λ (c : Cause). ⊥) (zipped false at (bared cs)).broken (zipped false at (bared cs)).lost k)
 
 -- a share that ends as its columns do without more, and one that is ended by what these lost
-abbrev Plain : ℕ → Share → Type 0
+abbrev pub Plain : ℕ → Share → Type 0
 Plain at h = (h.from.rows ≡ (zipped false at h.columns).rows) × (is_empty h.from.broken ≡ is_empty (zipped false at h.columns).broken)
 
 abbrev Loses : ℕ → Share → Type 0
@@ -378,8 +381,8 @@ selects_end F at es t T (U, inr (V, g, some, u), e) =
     inr (ap (λ (T : Table). T.rows) k, (λ none. some (sym (ap (λ (T : Table). T.broken) k) ∙ none)), some)
 
 -- A table ends as its own columns.
-own_columns : (at : ℕ) (t : Table) (j : ℕ) (js : List ℕ) → Shows t (those_at at t (j ∷ js)) → Ends at t (those_at at t (j ∷ js))
-own_columns at t j js shows = inl (as_long t (zip_table at cs) cs shows (zip_table_shows at cs) (sym (ap length (keyed_rows at t j js) ∙ length-map t.rows (picked (j ∷ js)))), by (is_empty t.broken) (is_empty z) refl refl)
+pub own_columns : (at : ℕ) (t : Table) (j : ℕ) (js : List ℕ) → Shows t (those_at at t (j ∷ js)) → Plain at (record { from = t; columns = those_at at t (j ∷ js) })
+own_columns at t j js shows = (as_long t (zip_table at cs) cs shows (zip_table_shows at cs) (sym (ap length (keyed_rows at t j js) ∙ length-map t.rows (picked (j ∷ js)))), by (is_empty t.broken) (is_empty z) refl refl)
   where
     cs : List Column
     cs = those_at at t (j ∷ js)
@@ -413,4 +416,4 @@ inputs_end at t some distinct wide = by t.schema refl
     by [] e = absurd (some e)
     by (f ∷ s) e =
         let p : cs ≡ those_at at t (0 ∷ from 1 s) = placed ∙ ap (λ s. those_at at t (from 0 s)) e in
-        subst (Ends at t) (sym p) (own_columns at t 0 (from 1 s) (subst (Shows t) p share.shows))
+        subst (Ends at t) (sym p) (inl (own_columns at t 0 (from 1 s) (subst (Shows t) p share.shows)))
