@@ -22,26 +22,26 @@ use Rattle.ps_shares.proofs.Leaves.{append_assoc}
 use Rattle.ps_shares.proofs.Members.{Has, to_has}
 
 -- it is the number of a node
-abbrev IsNode : Shape → Stream → Type 0
+abbrev pub IsNode : Shape → Stream → Type 0
 IsNode nodes i = i.0 < length nodes
 
-abbrev AreNodes : Shape → List Stream → Type 0
+abbrev pub AreNodes : Shape → List Stream → Type 0
 AreNodes nodes ss = AllByRecursion (IsNode nodes) ss
 
 -- the second has the nodes of the first and more, each of which reads earlier ones
-abbrev Adds : Shape → Shape → Type 0
+abbrev pub Adds : Shape → Shape → Type 0
 Adds a b = ((more : Shape) × (b ≡ a ++ more)) × IsOrdered b
 
-adds_same : (a : Shape) → IsOrdered a → Adds a a
+pub adds_same : (a : Shape) → IsOrdered a → Adds a a
 adds_same a o = (([], sym (append-nil a)), o)
 
-adds_then : (a b c : Shape) → Adds a b → Adds b c → Adds a c
+pub adds_then : (a b c : Shape) → Adds a b → Adds b c → Adds a c
 adds_then a b c ((xs, p), o) ((ys, q), r) = ((xs ++ ys, q ∙ ap (λ zs. zs ++ ys) p ∙ sym (append_assoc a xs ys)), r)
 
-node_later : (a b : Shape) → Adds a b → (i : Stream) → IsNode a i → IsNode b i
+pub node_later : (a b : Shape) → Adds a b → (i : Stream) → IsNode a i → IsNode b i
 node_later a b ((more, e), o) i lt = let l = ap length e ∙ length-append a more in omega arith
 
-nodes_later : (a b : Shape) → Adds a b → (ss : List Stream) → AreNodes a ss → AreNodes b ss
+pub nodes_later : (a b : Shape) → Adds a b → (ss : List Stream) → AreNodes a ss → AreNodes b ss
 nodes_later a b g [] h = tt
 nodes_later a b g (s ∷ ss) h = (node_later a b g s h.0, nodes_later a b g ss h.1)
 
@@ -68,20 +68,20 @@ ordered_more nodes p ordered inputs n q i there named = by (split_last nodes p q
     by (inr (h, k)) = let lt = each_node nodes p.inputs i inputs (to_has p.inputs i (subst (λ q. Contains q.inputs i) (sym k) named)) in omega arith
 
 -- a stream that is made
-abbrev MadeFrom : Shape → Made → Type 0
+abbrev pub MadeFrom : Shape → Made → Type 0
 MadeFrom nodes m = Adds nodes m.state.nodes × IsNode m.state.nodes m.stream
 
-inserted : (s : State) (p : PhysicalNode) → IsOrdered s.nodes → AreNodes s.nodes p.inputs → MadeFrom s.nodes (insert_node s p)
+pub inserted : (s : State) (p : PhysicalNode) → IsOrdered s.nodes → AreNodes s.nodes p.inputs → MadeFrom s.nodes (insert_node s p)
 inserted s p o h = let l = length-append s.nodes (p ∷ []) in (((p ∷ [], refl), ordered_more s.nodes p o h), omega arith)
 
-made_then : (a b : Shape) (m : Made) → Adds a b → MadeFrom b m → MadeFrom a m
+pub made_then : (a b : Shape) (m : Made) → Adds a b → MadeFrom b m → MadeFrom a m
 made_then a b m g h = (adds_then a b m.state.nodes g h.0, h.1)
 
-named_nodes : {A : Type 0} (xs : List A) (s : State) → (after_names xs s).nodes ≡ s.nodes
+pub named_nodes : {A : Type 0} (xs : List A) (s : State) → (after_names xs s).nodes ≡ s.nodes
 named_nodes [] s = refl
 named_nodes (x ∷ xs) s = named_nodes xs (after_name s)
 
-added_nodes : (nodes : Shape) (t : Stream) (ss : List Stream) → IsNode nodes t → AreNodes nodes ss → AreNodes nodes (added t ss)
+pub added_nodes : (nodes : Shape) (t : Stream) (ss : List Stream) → IsNode nodes t → AreNodes nodes ss → AreNodes nodes (added t ss)
 added_nodes nodes t ss h all = by (list_any (same_stream t) ss)
   where
     more : (ss : List Stream) → AreNodes nodes ss → AreNodes nodes (ss ++ t ∷ [])
@@ -92,32 +92,32 @@ added_nodes nodes t ss h all = by (list_any (same_stream t) ss)
     by true = all
     by false = more ss all
 
-all_added_nodes : (nodes : Shape) (ts ss : List Stream) → AreNodes nodes ts → AreNodes nodes ss → AreNodes nodes (all_added ts ss)
+pub all_added_nodes : (nodes : Shape) (ts ss : List Stream) → AreNodes nodes ts → AreNodes nodes ss → AreNodes nodes (all_added ts ss)
 all_added_nodes nodes [] ss h all = all
 all_added_nodes nodes (t ∷ ts) ss h all = all_added_nodes nodes ts (added t ss) h.1 (added_nodes nodes t ss h.0 all)
 
-last_node : (nodes : Shape) (ss : List Stream) (t : Stream) → AreNodes nodes ss → IsNode nodes t → AreNodes nodes (ss ++ t ∷ [])
+pub last_node : (nodes : Shape) (ss : List Stream) (t : Stream) → AreNodes nodes ss → IsNode nodes t → AreNodes nodes (ss ++ t ∷ [])
 last_node nodes [] t all h = (h, tt)
 last_node nodes (s ∷ ss) t all h = (all.0, last_node nodes ss t all.1 h)
 
 module _ (at : ℕ) (input : Stream) where
-  columns_made : (ns : List Name) (i : Stream) (s : State) → IsOrdered s.nodes → IsNode s.nodes i → MadeFrom s.nodes (with_columns at ns i s)
+  pub columns_made : (ns : List Name) (i : Stream) (s : State) → IsOrdered s.nodes → IsNode s.nodes i → MadeFrom s.nodes (with_columns at ns i s)
   columns_made ns i s o h = by (same_names ns (names_of (schema_at s.nodes i)))
     where
       by : (b : Bool) → MadeFrom s.nodes (cond {A = Made} b (record { state = s; stream = i }) (projection at ns i s))
       by true = (adds_same s.nodes o, h)
       by false = inserted s _ o (h, tt)
 
-  stream_made : (ss : List Stream) (s : State) → IsOrdered s.nodes → AreNodes s.nodes ss → MadeFrom s.nodes (one_stream at input ss s)
+  pub stream_made : (ss : List Stream) (s : State) → IsOrdered s.nodes → AreNodes s.nodes ss → MadeFrom s.nodes (one_stream at input ss s)
   stream_made [] s o h = inserted s _ o tt
   stream_made (t ∷ []) s o h = (adds_same s.nodes o, h.0)
   stream_made (t ∷ u ∷ more) s o h = inserted s _ o h
 
   -- what has gathered
-  abbrev Gathers : Shape → Bundle → Type 0
+  abbrev pub Gathers : Shape → Bundle → Type 0
   Gathers nodes b = Adds nodes b.state.nodes × AreNodes b.state.nodes b.streams
 
-  one_made : (b : Bundle) → IsOrdered b.state.nodes → IsNode b.state.nodes input → AreNodes b.state.nodes b.streams → MadeFrom b.state.nodes (one_of at input b.streams b.reduced b.state)
+  pub one_made : (b : Bundle) → IsOrdered b.state.nodes → IsNode b.state.nodes input → AreNodes b.state.nodes b.streams → MadeFrom b.state.nodes (one_of at input b.streams b.reduced b.state)
   one_made b o i h = by (is_empty b.reduced)
     where
       by : (e : Bool) → MadeFrom b.state.nodes (cond {A = State → Made} e (one_stream at input b.streams) (with_reduce at input b.streams b.reduced) b.state)
@@ -128,7 +128,7 @@ module _ (at : ℕ) (input : Stream) where
           made_then b.state.nodes m.state.nodes (one_stream at input (b.streams ++ m.stream ∷ []) m.state) k.0
           (stream_made (b.streams ++ m.stream ∷ []) m.state k.0.1 (last_node m.state.nodes b.streams m.stream (nodes_later b.state.nodes m.state.nodes k.0 b.streams h) k.1))
 
-  gathers : (c : Call) → IsOrdered c.state.nodes → IsNode c.state.nodes input → AreNodes c.state.nodes c.streams → Gathers c.state.nodes (gathered at input c)
+  pub gathers : (c : Call) → IsOrdered c.state.nodes → IsNode c.state.nodes input → AreNodes c.state.nodes c.streams → Gathers c.state.nodes (gathered at input c)
   gathers c o i h = by (is_empty c.mapped)
     where
       by : (e : Bool) → Gathers c.state.nodes (cond {A = Bundle} e (without_map at input c) (with_map at input c))
@@ -141,25 +141,25 @@ module _ (at : ℕ) (input : Stream) where
           (l.0, added_nodes m.state.nodes m.stream c.streams l.1 (nodes_later c.state.nodes m.state.nodes l.0 c.streams h))
 
   -- what a rule does
-  abbrev AddsTo : (Call → Call) → Type 0
+  abbrev pub AddsTo : (Call → Call) → Type 0
   AddsTo rule = (c : Call) → IsOrdered c.state.nodes → IsNode c.state.nodes input → AreNodes c.state.nodes c.streams → Adds c.state.nodes (rule c).state.nodes × AreNodes (rule c).state.nodes (rule c).streams
 
-  abbrev AllAdd : List Operand → Type 0
+  abbrev pub AllAdd : List Operand → Type 0
   AllAdd os = AllByRecursion (λ (o : Operand). AddsTo o.rule) os
 
-  each_adds : (os : List Operand) → AllAdd os → AddsTo (each os)
+  pub each_adds : (os : List Operand) → AllAdd os → AddsTo (each os)
   each_adds [] all c o i h = (adds_same c.state.nodes o, h)
   each_adds (x ∷ os) all c o i h =
       let p = all.0 c o i h in
       let q = each_adds os all.1 (x.rule c) p.0.1 (node_later c.state.nodes (x.rule c).state.nodes p.0 input i) p.1 in
       (adds_then c.state.nodes (x.rule c).state.nodes (each os (x.rule c)).state.nodes p.0 q.0, q.1)
 
-  apart_made : {A : Type 0} (xs : List A) (es : List Named) (s : State) → IsOrdered s.nodes → MadeFrom s.nodes (without_input at es (after_names xs s))
+  pub apart_made : {A : Type 0} (xs : List A) (es : List Named) (s : State) → IsOrdered s.nodes → MadeFrom s.nodes (without_input at es (after_names xs s))
   apart_made xs es s o =
       let e = named_nodes xs s in
       subst (λ n. MadeFrom n (without_input at es (after_names xs s))) e (inserted (after_names xs s) _ (subst IsOrdered (sym e) o) tt)
 
-  together_gathers : (os : List Operand) → AllAdd os → (s : State) → IsOrdered s.nodes → IsNode s.nodes input → Gathers s.nodes (together at input os s)
+  pub together_gathers : (os : List Operand) → AllAdd os → (s : State) → IsOrdered s.nodes → IsNode s.nodes input → Gathers s.nodes (together at input os s)
   together_gathers os all s o i = by (all_independent (exprs_of_all os))
     where
       by : (b : Bool) → Gathers s.nodes (cond {A = State → Bundle} b (apart_from_input at input (exprs_of_all os)) (over_input at input os) s)
@@ -170,26 +170,26 @@ module _ (at : ℕ) (input : Stream) where
           let q = gathers c p.0.1 (node_later s.nodes c.state.nodes p.0 input i) p.1 in
           (adds_then s.nodes c.state.nodes (gathered at input c).state.nodes p.0 q.0, q.1)
 
-  answers_made : (os : List Operand) → AllAdd os → (s : State) → IsOrdered s.nodes → IsNode s.nodes input
+  pub answers_made : (os : List Operand) → AllAdd os → (s : State) → IsOrdered s.nodes → IsNode s.nodes input
       → MadeFrom s.nodes (one_of at input (together at input os s).streams (together at input os s).reduced (together at input os s).state)
   answers_made os all s o i =
       let b = together at input os s in
       let g = together_gathers os all s o i in
       made_then s.nodes b.state.nodes (one_of at input b.streams b.reduced b.state) g.0 (one_made b g.0.1 (node_later s.nodes b.state.nodes g.0 input i) g.1)
 
-  abbrev AllItemsAdd : List NamedOperand → Type 0
+  abbrev pub AllItemsAdd : List NamedOperand → Type 0
   AllItemsAdd items = AllByRecursion (λ (i : NamedOperand). AddsTo i.1.rule) items
 
-  item_operands : (items : List NamedOperand) → AllItemsAdd items → AllAdd (operands_of items)
+  pub item_operands : (items : List NamedOperand) → AllItemsAdd items → AllAdd (operands_of items)
   item_operands [] all = tt
   item_operands (i ∷ items) all = (all.0, item_operands items all.1)
 
-  items_under : (ns : List Name) (os : List Operand) → AllAdd os → AllItemsAdd (under ns os)
+  pub items_under : (ns : List Name) (os : List Operand) → AllAdd os → AllItemsAdd (under ns os)
   items_under [] os all = tt
   items_under (n ∷ ns) [] all = tt
   items_under (n ∷ ns) (o ∷ os) all = (all.0, items_under ns os all.1)
 
-  selected_made : (items : List NamedOperand) → AllItemsAdd items → (s : State) → IsOrdered s.nodes → IsNode s.nodes input → MadeFrom s.nodes (selected at input items s)
+  pub selected_made : (items : List NamedOperand) → AllItemsAdd items → (s : State) → IsOrdered s.nodes → IsNode s.nodes input → MadeFrom s.nodes (selected at input items s)
   selected_made items all s o i = by (all_independent (exprs_of_all (operands_of items))) (are_own_columns items)
     where
       by : (a b : Bool)
@@ -203,14 +203,14 @@ module _ (at : ℕ) (input : Stream) where
           made_then s.nodes m.state.nodes (computed at input items s) k.0 (inserted m.state _ k.0.1 (k.1, tt))
 
   -- values and keys under fresh names, selected
-  under_made : (os : List Operand) → AllAdd os → (s : State) → IsOrdered s.nodes → IsNode s.nodes input → MadeFrom s.nodes (selected at input (under (new_names os s) os) (after_names os s))
+  pub under_made : (os : List Operand) → AllAdd os → (s : State) → IsOrdered s.nodes → IsNode s.nodes input → MadeFrom s.nodes (selected at input (under (new_names os s) os) (after_names os s))
   under_made os all s o i =
       let e = named_nodes os s in
       subst (λ n. MadeFrom n (selected at input (under (new_names os s) os) (after_names os s))) e
       (selected_made (under (new_names os s) os) (items_under (new_names os s) os all) (after_names os s) (subst IsOrdered (sym e) o) (subst (λ n. IsNode n input) (sym e) i))
 
   -- a stream more
-  given_adds : (c : Call) (m : Made) → AreNodes c.state.nodes c.streams → MadeFrom c.state.nodes m → Adds c.state.nodes m.state.nodes × AreNodes m.state.nodes (added m.stream c.streams)
+  pub given_adds : (c : Call) (m : Made) → AreNodes c.state.nodes c.streams → MadeFrom c.state.nodes m → Adds c.state.nodes m.state.nodes × AreNodes m.state.nodes (added m.stream c.streams)
   given_adds c m h k = (k.0, added_nodes m.state.nodes m.stream c.streams k.1 (nodes_later c.state.nodes m.state.nodes k.0 c.streams h))
 
   adds_or : (e : Tree) (rule : Call → Call) → AddsTo rule → AddsTo (stays_or at input e rule)
@@ -226,7 +226,7 @@ module _ (at : ℕ) (input : Stream) where
   adds_left : (e : Tree) → AddsTo (left_to_map e)
   adds_left e c o i h = (adds_same c.state.nodes o, h)
 
-  adds_operands : (op : List Tree → Tree) (os : List Operand) → AllAdd os → AddsTo (over_operands at input op os)
+  pub adds_operands : (op : List Tree → Tree) (os : List Operand) → AllAdd os → AddsTo (over_operands at input op os)
   adds_operands op os all c o i h =
       let b = together at input os c.state in
       let g = together_gathers os all c.state o i in
@@ -263,7 +263,7 @@ module _ (at : ℕ) (input : Stream) where
   adds_aggregate Aggregation.sum x e g = adds_column Aggregation.sum x g
 
   mutual
-    adds : (e : Tree) → AddsTo (lower at input e)
+    pub adds : (e : Tree) → AddsTo (lower at input e)
     adds (Tree.column name) c o i h = adds_or (Tree.column name) (λ call. call) (λ c o i h. (adds_same c.state.nodes o, h)) c o i h
     adds (Tree.literal l) c o i h = adds_or (Tree.literal l) (λ call. call) (λ c o i h. (adds_same c.state.nodes o, h)) c o i h
     adds (Tree.binary p l r) c o i h =
@@ -308,19 +308,19 @@ module _ (at : ℕ) (input : Stream) where
     adds (Tree.left_out w) c o i h = adds_left (Tree.left_out w) c o i h
     adds Tree.missing c o i h = adds_left Tree.missing c o i h
 
-    add_all : (es : Trees) → AllAdd (operands at input es)
+    pub add_all : (es : Trees) → AllAdd (operands at input es)
     add_all Trees.no_trees = tt
     add_all (Trees.tree e es) = (adds e, add_all es)
 
-  all_add : (es : List Tree) → AllAdd (map (as_operand at input) es)
+  pub all_add : (es : List Tree) → AllAdd (map (as_operand at input) es)
   all_add [] = tt
   all_add (e ∷ es) = (adds e, all_add es)
 
-  items_add : (es : List Named) → AllItemsAdd (map (λ (e : Named). (e.0, as_operand at input e.1)) es)
+  pub items_add : (es : List Named) → AllItemsAdd (map (λ (e : Named). (e.0, as_operand at input e.1)) es)
   items_add [] = tt
   items_add (e ∷ es) = (adds e.1, items_add es)
 
-  all_grow : (es : List Tree) → AllGrow at input (map (as_operand at input) es)
+  pub all_grow : (es : List Tree) → AllGrow at input (map (as_operand at input) es)
   all_grow [] = tt
   all_grow (e ∷ es) = (grows at input e, all_grow es)
 

@@ -47,7 +47,7 @@ clear_column : (xs : List Cell) → list_any is_faulty_row (map (λ x. x ∷ [])
 clear_column [] h = (refl, refl)
 clear_column (x ∷ xs) h = clear_step x xs (clear_column xs) h
 
-same_values : (vs ws : List Value) → map (λ v. v ∷ []) vs ≡ map (λ v. v ∷ []) ws → vs ≡ ws
+pub same_values : (vs ws : List Value) → map (λ v. v ∷ []) vs ≡ map (λ v. v ∷ []) ws → vs ≡ ws
 same_values vs ws e = sym (back vs) ∙ ap (map (λ row. get_or row 0 val.Null)) e ∙ back ws
   where
     back : (vs : List Value) → map (λ row. get_or row 0 val.Null) (map (λ v. v ∷ []) vs) ≡ vs
@@ -80,7 +80,7 @@ whole_column_is node c e = by (list_any is_faulty_row (rows_of_zip node (c ∷ [
         absurd (faulty_breaks node (c ∷ []) (below (zip_length false (extents (c ∷ [])))) q (sym all ∙ e))
 
 -- where the column has no cause, its zip is whole
-clear_is_whole : (node : ℕ) (c : Column) → column_causes c ≡ [] → (zipped false node (c ∷ [])).broken ≡ []
+pub clear_is_whole : (node : ℕ) (c : Column) → column_causes c ≡ [] → (zipped false node (c ∷ [])).broken ≡ []
 clear_is_whole node c e =
     let none : c.broken ≡ [] = append-empty_right (flat_map cell_causes c.cells) c.broken e in
     let whole : ends_early false (c ∷ []) ≡ false =
@@ -95,7 +95,7 @@ same_shows R x y ec eb s =
     record { few = k.few; whole = k.whole; rows = k.rows }
 
 -- an aggregate of a column, by whether that has a cause
-abbrev aggregate_as : ℕ → Aggregation → Option DataType → Column → Bool → Column
+abbrev pub aggregate_as : ℕ → Aggregation → Option DataType → Column → Bool → Column
 aggregate_as node a k c b =
     cond b (record { cells = []; broken = flat_map column_causes (c ∷ []); lost = flat_map (λ (c : Column). c.lost) (c ∷ []) })
     (record (aggregate_column node a k (cell_values c.cells)) { lost = flat_map (λ (c : Column). c.lost) (c ∷ []) })
@@ -103,7 +103,7 @@ aggregate_as node a k c b =
 pub no_cause : (c : Column) → column_causes c ≡ [] → (has_cause c || false) ≡ false
 no_cause c e = ap (λ cs. not (is_empty cs) || false) e
 
-cause_of : (c : Column) (b : Bool) → has_cause c ≡ b → (column_causes c ≡ [] → ⊥) → (has_cause c || false) ≡ true
+pub cause_of : (c : Column) (b : Bool) → has_cause c ≡ b → (column_causes c ≡ [] → ⊥) → (has_cause c || false) ≡ true
 cause_of c true h some = ap (λ b. b || false) h
 cause_of c false h some = absurd (some (empty (column_causes c) h))
   where

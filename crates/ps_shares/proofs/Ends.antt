@@ -36,7 +36,7 @@ use Rattle.ps_shares.proofs.Members.{Has, from_has, to_has}
 use Rattle.ps_shares.proofs.Named.{at_all, names_show, over_columns}
 
 -- nodes that were there stay
-kept_there : (nodes more : Shape) (n : ℕ) (p : PhysicalNode) → slice_get nodes n ≡ Some p → slice_get (nodes ++ more) n ≡ Some p
+pub kept_there : (nodes more : Shape) (n : ℕ) (p : PhysicalNode) → slice_get nodes n ≡ Some p → slice_get (nodes ++ more) n ≡ Some p
 kept_there [] more n p e = cc
 kept_there (x ∷ xs) more zero p e = e
 kept_there (x ∷ xs) more (suc n) p e = kept_there xs more n p e
@@ -195,17 +195,17 @@ has_some [] a h e = absurd h
 has_some (x ∷ xs) a h e = cc
 
 -- expressions under names
-exprs_under : (ns : List Name) (es : List Tree) → length ns ≡ length es → exprs_of (under ns es) ≡ es
+pub exprs_under : (ns : List Name) (es : List Tree) → length ns ≡ length es → exprs_of (under ns es) ≡ es
 exprs_under [] [] e = refl
 exprs_under [] (x ∷ es) e = absurd (omega arith)
 exprs_under (n ∷ ns) [] e = absurd (omega arith)
 exprs_under (n ∷ ns) (x ∷ es) e = ap (λ es. x ∷ es) (exprs_under ns es (omega arith))
 
-under_own : (es : List Named) → under (expr_names es) (exprs_of es) ≡ es
+pub under_own : (es : List Named) → under (expr_names es) (exprs_of es) ≡ es
 under_own [] = refl
 under_own (e ∷ es) = ap (λ es. e ∷ es) (under_own es)
 
-same_fields : (s t : Fields) (ns : List Name) (given known : List Tree) → map (kind_over s) given ≡ map (kind_over t) known → fields_of (under ns given) s ≡ fields_of (under ns known) t
+pub same_fields : (s t : Fields) (ns : List Name) (given known : List Tree) → map (kind_over s) given ≡ map (kind_over t) known → fields_of (under ns given) s ≡ fields_of (under ns known) t
 same_fields s t [] given known e = refl
 same_fields s t (n ∷ ns) [] [] e = refl
 same_fields s t (n ∷ ns) [] (y ∷ ys) e = let w : [] ≡ kind_over t y ∷ map (kind_over t) ys = e in cc

@@ -32,7 +32,7 @@ use Rattle.ps_rules.specs.Slots.{columns_named, under}
 use Rattle.ps_shares.proofs.Aggregated.{map_again, same_shows}
 use Rattle.ps_shares.proofs.Leaves.{get_all}
 use Rattle.ps_shares.proofs.Shares.{cons_as, cons_is, nothing_shows, row_values}
-use Rattle.ps_shares.proofs.Stepped.{AsZip, in_order_map, keyed_broken, keyed_rows, one_back, one_wide, selected, those_at}
+use Rattle.ps_shares.proofs.Stepped.{AsZip, empty, in_order_map, keyed_broken, keyed_rows, one_back, one_wide, selected, those_at}
 use Rattle.ps_shares.proofs.ZipShares.{inputs_show}
 
 -- the places from one on, as many as there are fields
@@ -103,10 +103,10 @@ abbrev keyed_item : List Value → List Value × List Value
 keyed_item row = (drop 1 row, row)
 
 module _ (fs : Fields) where
-  abbrev w : ℕ
+  abbrev pub w : ℕ
   w = suc (length fs)
 
-  abbrev all_places : List ℕ
+  abbrev pub all_places : List ℕ
   all_places = below w ++ from 1 fs
 
   abbrev item_of : List Value → List Value × List Value
@@ -149,28 +149,28 @@ firsts ds rows =
     same [] = refl
     same (row ∷ rows) = ap (λ ps. (drop 1 row, get_or row 0 val.Null ∷ []) ∷ ps) (same rows)
 
-trees_columns : (at : ℕ) (t : Table) (es : Trees) → columns_at at (listed es) t ≡ eval_all at t es
+pub trees_columns : (at : ℕ) (t : Table) (es : Trees) → columns_at at (listed es) t ≡ eval_all at t es
 trees_columns at t Trees.no_trees = refl
 trees_columns at t (Trees.tree e es) = ap (λ cs. eval at t e ∷ cs) (trees_columns at t es)
 
-count_listed : (es : Trees) → length (listed es) ≡ tree_count es
+pub count_listed : (es : Trees) → length (listed es) ≡ tree_count es
 count_listed Trees.no_trees = refl
 count_listed (Trees.tree e es) = ap suc (count_listed es)
 
-exprs_under : (ns : List Name) (es : List Tree) → length ns ≡ length es → exprs_of (under ns es) ≡ es
+pub exprs_under : (ns : List Name) (es : List Tree) → length ns ≡ length es → exprs_of (under ns es) ≡ es
 exprs_under [] [] e = refl
 exprs_under [] (x ∷ es) e = cc
 exprs_under (n ∷ ns) [] e = cc
 exprs_under (n ∷ ns) (x ∷ es) e = ap (λ xs. x ∷ xs) (exprs_under ns es (omega (arith, e)))
 
-eval_count : (at : ℕ) (t : Table) (es : Trees) → length (eval_all at t es) ≡ tree_count es
+pub eval_count : (at : ℕ) (t : Table) (es : Trees) → length (eval_all at t es) ≡ tree_count es
 eval_count at t Trees.no_trees = refl
 eval_count at t (Trees.tree e es) = ap suc (eval_count at t es)
 
 module _ (F : Functions) (at : ℕ) (m : Name) (ns : List Name) (d n : List Bool) (e : Tree) (by : Trees) (k : DataType) (fs : Fields) (t P S R : Table) (named : names_of fs ≡ ns) (count : length ns ≡ tree_count by)
-    (typed : fields_of (under (m ∷ ns) (e ∷ listed by)) t.schema ≡ Some ((m, k) ∷ fs)) (distinct : IsTrue (has_distinct_names ((m, k) ∷ fs))) (gives : Case F at (select (under (m ∷ ns) (e ∷ listed by))) (t ∷ []) P)
+    (fields : P.schema ≡ (m, k) ∷ fs) (distinct : IsTrue (has_distinct_names ((m, k) ∷ fs))) (as_zip : AsZip (zipped false at (eval at t e ∷ eval_all at t by)) P)
     (then_project : Case F at (project (m ∷ [])) (S ∷ []) R) where
-  abbrev o : SortStep
+  abbrev pub o : SortStep
   o = record { keys = columns_named ns; descending = d; nulls_last = n; cut = None }
 
   abbrev ds : List Direction
@@ -179,31 +179,23 @@ module _ (F : Functions) (at : ℕ) (m : Name) (ns : List Name) (d n : List Bool
   abbrev cs : List Column
   cs = eval at t e ∷ eval_all at t by
 
-  abbrev Z : Zipped
+  abbrev pub Z : Zipped
   Z = zipped false at cs
 
   abbrev sorted : Column
   sorted = eval at t (Tree.sort_by d n e by)
 
-  fields : P.schema ≡ (m, k) ∷ fs
-  fields = (selected F at (under (m ∷ ns) (e ∷ listed by)) t P gives).0 ∙ ap (λ o. unwrap_or o []) typed
-
-  as_zip : AsZip Z P
-  as_zip =
-      let q = ap (λ xs. eval at t e ∷ columns_at at xs t) (exprs_under ns (listed by) (count ∙ sym (count_listed by))) ∙ ap (λ xs. eval at t e ∷ xs) (trees_columns at t by) in
-      subst (λ xs. AsZip (zipped false at xs) P) q (selected F at (under (m ∷ ns) (e ∷ listed by)) t P gives).1
-
-  abbrev y : Zipped
+  abbrev pub y : Zipped
   y = zipped false at (those_at at P (all_places fs))
 
-  keyed_as : keyed at o.keys P ≡ y
+  pub keyed_as : keyed at o.keys P ≡ y
   keyed_as =
       let p = placed_columns at P fs 1 (subst (λ s. Placed s fs 1) (sym fields) (own_places ((m, k) ∷ fs) distinct).1) in
       let c : columns_of P ≡ map (λ j. column_at j P) (below (w fs)) = ap (λ s. map (λ j. column_at j P) (below (length s))) fields in
       let keys : columns_at at (columns_named ns) P ≡ map (λ j. column_at j P) (from 1 fs) = ap (λ ns. columns_at at (columns_named ns) P) (sym named) ∙ p in
       ap (zipped false at) ((λ i. c i ++ keys i) ∙ sym (map-append (λ j. column_at j P) (below (w fs)) (from 1 fs)))
 
-  places_are : (j : ℕ) × (js : List ℕ) × (all_places fs ≡ j ∷ js)
+  pub places_are : (j : ℕ) × (js : List ℕ) × (all_places fs ≡ j ∷ js)
   places_are = first (below (length fs))
     where
       first : (xs : List ℕ) → (j : ℕ) × (js : List ℕ) × ((xs ++ length fs ∷ []) ++ from 1 fs ≡ j ∷ js)
@@ -215,13 +207,13 @@ module _ (F : Functions) (at : ℕ) (m : Name) (ns : List Name) (d n : List Bool
       let q = places_are in
       ap (λ js. (zipped false at (those_at at P js)).rows) q.2 ∙ keyed_rows at P q.0 q.1 ∙ sym (ap (λ js. map (picked js) P.rows) q.2)
 
-  whole_if : y.broken ≡ [] → P.broken ≡ []
+  pub whole_if : y.broken ≡ [] → P.broken ≡ []
   whole_if none = let q = places_are in keyed_broken at P q.0 q.1 (sym (ap (λ js. (zipped false at (those_at at P js)).broken) q.2) ∙ none)
 
   key_count : directions_of (length o.keys) d n ≡ ds
   key_count = ap (λ n'. directions_of n' d n) (length-map ns (λ n. Tree.column n) ∙ count)
 
-  project_is : S.schema ≡ (m, k) ∷ fs → R ≡ record { schema = (m, k) ∷ []; rows = map (picked (0 ∷ [])) S.rows; broken = S.broken }
+  pub project_is : S.schema ≡ (m, k) ∷ fs → R ≡ record { schema = (m, k) ∷ []; rows = map (picked (0 ∷ [])) S.rows; broken = S.broken }
   project_is s = given then_project
     where
       index : field_index m S.schema ≡ Some 0
@@ -234,7 +226,7 @@ module _ (F : Functions) (at : ℕ) (m : Name) (ns : List Name) (d n : List Bool
       given (U, inl g, e') = e' ∙ g ∙ (λ i. record { schema = out i; rows = map (picked (unwrap_or (index i) 0 ∷ [])) S.rows; broken = S.broken })
       given (U, inr (V, g, some, u), e') = absurd (some refl)
 
-  whole_shows : P.rows ≡ Z.rows → P.broken ≡ Z.broken → y.broken ≡ [] → S ≡ table_of P.schema (sorted_rows o (width P)) y → Shows R (sorted ∷ [])
+  whole_shows : P.rows ≡ Z.rows → is_empty P.broken ≡ is_empty Z.broken → y.broken ≡ [] → S ≡ table_of P.schema (sorted_rows o (width P)) y → Shows R (sorted ∷ [])
   whole_shows rows broken clear is =
       let vs = in_order_of_keys ds (map valued_item Z.rows) in
       let T : Table = record { schema = (m, k) ∷ []; rows = map (λ v. v ∷ []) vs; broken = [] } in
@@ -249,7 +241,7 @@ module _ (F : Functions) (at : ℕ) (m : Name) (ns : List Name) (d n : List Bool
       let schema : S.schema ≡ (m, k) ∷ fs = ap (λ (T : Table). T.schema) is ∙ fields in
       let whole : S.broken ≡ [] = ap (λ (T : Table). T.broken) is ∙ clear in
       let same : R ≡ T = project_is schema ∙ (λ i. record { schema = (m, k) ∷ []; rows = kept i; broken = whole i }) in
-      let none : Z.broken ≡ [] = sym broken ∙ whole_if clear in
+      let none : Z.broken ≡ [] = empty Z.broken (ap not (sym broken ∙ ap is_empty (whole_if clear))) in
       let cells : sorted.cells ≡ map value vs = ap (λ b. cond (is_empty b) (map value vs) []) none in
       subst (λ U. Shows U (sorted ∷ [])) (sym same) (same_shows T (column_at 0 T) sorted (ap (map value) (one_back vs) ∙ sym cells) (sym none) (inputs_show T (one_wide vs) (λ none. cc)))
 
@@ -265,7 +257,7 @@ module _ (F : Functions) (at : ℕ) (m : Name) (ns : List Name) (d n : List Bool
   by_broken [] q is (inr (rows, some)) = absurd (some (whole_if q))
   by_broken [] q is (inl (rows, broken)) = whole_shows rows broken q (is ∙ ap (λ b. if_whole P.schema b (table_of P.schema (sorted_rows o (width P)) y)) q)
 
-  sort_by_shows : Case F at (sort o) (P ∷ []) S → Shows R (sorted ∷ [])
+  pub sort_by_shows : Case F at (sort o) (P ∷ []) S → Shows R (sorted ∷ [])
   sort_by_shows (U, inl g, e') = by_broken y.broken refl (e' ∙ g ∙ ap (λ z. if_whole P.schema z.broken (table_of P.schema (sorted_rows o (width P)) z)) keyed_as) as_zip
   sort_by_shows (U, inr (V, g, some, u), e') =
       let z = keyed at o.keys P in
@@ -278,4 +270,7 @@ module _ (F : Functions) (at : ℕ) (m : Name) (ns : List Name) (d n : List Bool
       schema_of (x ∷ xs) T h = refl
 
 pub sort_bys_show : SortBysShow
-sort_bys_show F at m ns d n e by k fs t P S R named count typed distinct gives case then_project = sort_by_shows F at m ns d n e by k fs t P S R named count typed distinct gives then_project case
+sort_bys_show F at m ns d n e by k fs t P S R named count typed distinct gives case then_project =
+    let g = selected F at (under (m ∷ ns) (e ∷ listed by)) t P gives in
+    let q = ap (λ xs. eval at t e ∷ columns_at at xs t) (exprs_under ns (listed by) (count ∙ sym (count_listed by))) ∙ ap (λ xs. eval at t e ∷ xs) (trees_columns at t by) in
+    sort_by_shows F at m ns d n e by k fs t P S R named count (g.0 ∙ ap (λ o. unwrap_or o []) typed) distinct (subst (λ xs. AsZip (zipped false at xs) P) q g.1) then_project case

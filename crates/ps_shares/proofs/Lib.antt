@@ -1,28 +1,28 @@
-mod FlatLength
-mod ClearZips
-mod FlatEnds
-mod Leaves
-mod ByLeaves
-mod Shares
-mod ZipShares
-mod Below
-mod Members
-mod Named
-mod Aggregated
-mod Misfits
-mod Agreeing
-mod Causes
-mod ByCauses
-mod Projected
-mod Stepped
-mod Fresh
-mod Growing
-mod Stands
-mod Adding
-mod KeySorts
-mod Ends
-mod ZipCauses
-mod StreamEnds
-mod SelectShares
-mod InputShares
-mod ZipReach
+pub mod FlatLength
+pub mod ClearZips
+pub mod FlatEnds
+pub mod Leaves
+pub mod ByLeaves
+pub mod Shares
+pub mod ZipShares
+pub mod Below
+pub mod Members
+pub mod Named
+pub mod Aggregated
+pub mod Misfits
+pub mod Agreeing
+pub mod Causes
+pub mod ByCauses
+pub mod Projected
+pub mod Stepped
+pub mod Fresh
+pub mod Growing
+pub mod Stands
+pub mod Adding
+pub mod KeySorts
+pub mod Ends
+pub mod ZipCauses
+pub mod StreamEnds
+pub mod SelectShares
+pub mod InputShares
+pub mod ZipReach

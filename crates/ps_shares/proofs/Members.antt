@@ -94,7 +94,7 @@ has_ended (x ∷ es) e s (inr k) = or_right x.ended (any es) (has_ended es e s k
     or_right true b h = refl
     or_right false b h = h
 
-same_number : (ns : List ℕ) → all_same ns ≡ true → (m : ℕ) × AllByRecursion (λ n. n ≡ m) ns
+pub same_number : (ns : List ℕ) → all_same ns ≡ true → (m : ℕ) × AllByRecursion (λ n. n ≡ m) ns
 same_number [] h = (0, tt)
 same_number (m ∷ ms) h = (m, (refl, by ms h))
   where
@@ -102,7 +102,7 @@ same_number (m ∷ ms) h = (m, (refl, by ms h))
     by [] h = tt
     by (n ∷ ns) h = let b = both_hold (n == m) (list_all (λ n. n == m) ns) h in (eqb-true n m b.0, by ns b.1)
 
-are_same : (ns : List ℕ) (m : ℕ) → AllByRecursion (λ n. n ≡ m) ns → all_same ns ≡ true
+pub are_same : (ns : List ℕ) (m : ℕ) → AllByRecursion (λ n. n ≡ m) ns → all_same ns ≡ true
 are_same [] m all = refl
 are_same (n ∷ ns) m all = by ns all.1
   where

@@ -106,7 +106,7 @@ module _ (P : Extent → Type 0) (env : Naming) (N : Name → Type 0) (one : (n 
   each_of_all [] all at = each_none P
   each_of_all (e ∷ es) all at = each_append P (leaves env e) (all_leaves env es) (each_leaf e all.0 at.0) (each_of_all es all.1 at.1)
 
-or_cases : (a b : Bool) → (a && b) ≡ false → (a ≡ false) ⊎ (b ≡ false)
+pub or_cases : (a b : Bool) → (a && b) ≡ false → (a ≡ false) ⊎ (b ≡ false)
 or_cases false b h = inl refl
 or_cases true b h = inr h
 

@@ -49,7 +49,7 @@ stands_second [] ns n h = refl
 stands_second (m ∷ ms) ns n h = ap (λ b. cond b m.1 (stands_for (ms ++ ns) n)) h.0 ∙ stands_second ms ns n h.1
 
 module _ (ms ns : List Named) where
-  put_same : (e : Tree) → AtLeaves (λ n. stands_for ms n ≡ stands_for ns n) e → put_back ms e ≡ put_back ns e
+  pub put_same : (e : Tree) → AtLeaves (λ n. stands_for ms n ≡ stands_for ns n) e → put_back ms e ≡ put_back ns e
   put_same (Tree.column name) h = h
   put_same (Tree.literal l) h = refl
   put_same (Tree.binary o l r) h = let p = put_same l h.0 in let q = put_same r h.1 in λ i. Tree.binary o (p i) (q i)
@@ -66,7 +66,7 @@ module _ (ms ns : List Named) where
   put_same (Tree.left_out w) h = refl
   put_same Tree.missing h = refl
 
-  put_all_same : (es : List Tree) → AllByRecursion (AtLeaves (λ n. stands_for ms n ≡ stands_for ns n)) es → map (put_back ms) es ≡ map (put_back ns) es
+  pub put_all_same : (es : List Tree) → AllByRecursion (AtLeaves (λ n. stands_for ms n ≡ stands_for ns n)) es → map (put_back ms) es ≡ map (put_back ns) es
   put_all_same [] h = refl
   put_all_same (e ∷ es) h = let p = put_same e h.0 in let q = put_all_same es h.1 in λ i. p i ∷ q i
 
@@ -78,12 +78,12 @@ all_append : {A : Type 0} (P : A → Type 0) (xs ys : List A) → AllByRecursion
 all_append P [] ys p q = q
 all_append P (x ∷ xs) ys p q = (p.0, all_append P xs ys p.1 q)
 
-map_two : (f : Tree → Tree) (xs ys : List Tree) → map f (xs ++ ys) ≡ map f xs ++ map f ys
+pub map_two : (f : Tree → Tree) (xs ys : List Tree) → map f (xs ++ ys) ≡ map f xs ++ map f ys
 map_two f [] ys = refl
 map_two f (x ∷ xs) ys = ap (λ zs. f x ∷ zs) (map_two f xs ys)
 
 -- names that came to be known between two states
-abbrev Fresh : Names → Names → Name → Type 0
+abbrev pub Fresh : Names → Names → Name → Type 0
 Fresh a b n = (¬ IsKnown a n) × IsKnown b n
 
 outside : (ms : List Named) (n : Name) (a b : Names) → AllByRecursion (λ (m : Named). Fresh a b m.0) ms → IsKnown a n ⊎ (¬ IsKnown b n) → Outside ms n
@@ -103,7 +103,7 @@ record Done (B : Name → Type 0) (a b : Names) (es news : List Tree) : Type 0 w
   read : AllByRecursion (AtLeaves (λ n. B n ⊎ Fresh a b n)) news
 
 module _ (B : Name → Type 0) where
-  abbrev Read : Names → Names → Name → Type 0
+  abbrev pub Read : Names → Names → Name → Type 0
   Read a b n = B n ⊎ Fresh a b n
 
   abbrev HasAll : Names → Type 0
@@ -177,7 +177,7 @@ module _ (B : Name → Type 0) where
   none_done a = record { ms = []; back = refl; fresh = tt; elementwise = tt; read = tt }
 
   -- what stays
-  reads_at : (a : Names) (e : Tree) → ReadsAll B e → AtLeaves (Read a a) e
+  pub reads_at : (a : Names) (e : Tree) → ReadsAll B e → AtLeaves (Read a a) e
   reads_at a (Tree.column name) h = inl h
   reads_at a (Tree.literal l) h = tt
   reads_at a (Tree.binary o l r) h = (reads_at a l h.0, reads_at a r h.1)
@@ -375,33 +375,33 @@ module _ (B : Name → Type 0) where
         (subst (λ a. Done B s.names a (exprs_of_all os) (lower_exprs at input es s).exprs) (sym n) d)
 
 -- what has a kind reads columns that have one
-some_if : (b : Bool) (k : Option DataType) → is_some (kind_if b k) ≡ true → (b ≡ true) × (is_some k ≡ true)
+pub some_if : (b : Bool) (k : Option DataType) → is_some (kind_if b k) ≡ true → (b ≡ true) × (is_some k ≡ true)
 some_if true k h = (refl, h)
 some_if false k h = cc
 
-some_kind : (k : DataType) (o : Option DataType) → is_kind k o ≡ true → is_some o ≡ true
+pub some_kind : (k : DataType) (o : Option DataType) → is_kind k o ≡ true → is_some o ≡ true
 some_kind k None h = cc
 some_kind k (Some j) h = refl
 
-some_binary : (o : Operator) (a b : Option DataType) → is_some (binary_kind o a b) ≡ true → (is_some a ≡ true) × (is_some b ≡ true)
+pub some_binary : (o : Operator) (a b : Option DataType) → is_some (binary_kind o a b) ≡ true → (is_some a ≡ true) × (is_some b ≡ true)
 some_binary o (Some a) (Some b) h = (refl, refl)
 some_binary o (Some a) None h = cc
 some_binary o None b h = cc
 
-some_cast : (k : DataType) (o : Option DataType) → is_some (cast_kind k o) ≡ true → is_some o ≡ true
+pub some_cast : (k : DataType) (o : Option DataType) → is_some (cast_kind k o) ≡ true → is_some o ≡ true
 some_cast k None h = cc
 some_cast k (Some j) h = refl
 
-some_branch : (a b : Option DataType) → is_some (branch_kind a b) ≡ true → (is_some a ≡ true) × (is_some b ≡ true)
+pub some_branch : (a b : Option DataType) → is_some (branch_kind a b) ≡ true → (is_some a ≡ true) × (is_some b ≡ true)
 some_branch (Some a) (Some b) h = (refl, refl)
 some_branch (Some a) None h = cc
 some_branch None b h = cc
 
-some_sum : (o : Option DataType) → is_some (sum_kind o) ≡ true → is_some o ≡ true
+pub some_sum : (o : Option DataType) → is_some (sum_kind o) ≡ true → is_some o ≡ true
 some_sum None h = cc
 some_sum (Some k) h = refl
 
-some_aggregate : (a : Aggregation) (o : Option DataType) → is_some (aggregate_kind a o) ≡ true → is_some o ≡ true
+pub some_aggregate : (a : Aggregation) (o : Option DataType) → is_some (aggregate_kind a o) ≡ true → is_some o ≡ true
 some_aggregate Aggregation.sum o h = some_sum o h
 some_aggregate Aggregation.n_unique o h = (some_if (is_some o) (Some kind.IdxSize) h).0
 some_aggregate (Aggregation.count all) o h = (some_if (is_some o) (Some kind.IdxSize) h).0
@@ -410,22 +410,22 @@ some_aggregate Aggregation.max o h = h
 some_aggregate Aggregation.first o h = h
 some_aggregate Aggregation.last o h = h
 
-some_function : (g : FunctionExpr) (o : Option DataType) → is_some (function_kind g o) ≡ true → is_some o ≡ true
+pub some_function : (g : FunctionExpr) (o : Option DataType) → is_some (function_kind g o) ≡ true → is_some o ≡ true
 some_function fun.Not o h = some_kind kind.Boolean o (some_if (is_kind kind.Boolean o) (Some kind.Boolean) h).0
 some_function fun.IsNull o h = (some_if (is_some o) (Some kind.Boolean) h).0
 some_function fun.IsNotNull o h = (some_if (is_some o) (Some kind.Boolean) h).0
 some_function fun.Reverse o h = h
 
-some_index : (o : Option DataType) (b : Bool) → ((is_kind kind.Int64 o || is_kind kind.IdxSize o) && b) ≡ true → is_some o ≡ true
+pub some_index : (o : Option DataType) (b : Bool) → ((is_kind kind.Int64 o || is_kind kind.IdxSize o) && b) ≡ true → is_some o ≡ true
 some_index None b h = cc
 some_index (Some k) b h = refl
 
 module _ (s : Fields) where
-  abbrev HasKind : Name → Type 0
+  abbrev pub HasKind : Name → Type 0
   HasKind n = is_some (field_kind n s) ≡ true
 
   mutual
-    typed_reads : (e : Tree) → is_some (kind_over s e) ≡ true → ReadsAll HasKind e
+    pub typed_reads : (e : Tree) → is_some (kind_over s e) ≡ true → ReadsAll HasKind e
     typed_reads (Tree.column name) h = h
     typed_reads (Tree.literal l) h = tt
     typed_reads (Tree.binary o l r) h = let p = some_binary o (kind_over s l) (kind_over s r) h in (typed_reads l p.0, typed_reads r p.1)
@@ -456,15 +456,15 @@ module _ (s : Fields) where
     typed_reads (Tree.left_out w) h = tt
     typed_reads Tree.missing h = tt
 
-    all_typed_read : (es : Trees) → have_kinds s es ≡ true → AllReadAll HasKind es
+    pub all_typed_read : (es : Trees) → have_kinds s es ≡ true → AllReadAll HasKind es
     all_typed_read Trees.no_trees h = tt
     all_typed_read (Trees.tree e es) h = let p = both_hold (is_some (kind_over s e)) (have_kinds s es) h in (typed_reads e p.0, all_typed_read es p.1)
 
-  list_typed : (es : List Tree) → list_all (λ e. is_some (kind_over s e)) es ≡ true → AllByRecursion (ReadsAll HasKind) es
+  pub list_typed : (es : List Tree) → list_all (λ e. is_some (kind_over s e)) es ≡ true → AllByRecursion (ReadsAll HasKind) es
   list_typed [] h = tt
   list_typed (e ∷ es) h = let p = both_hold (is_some (kind_over s e)) (list_all (λ e. is_some (kind_over s e)) es) h in (typed_reads e p.0, list_typed es p.1)
 
-among_known : (n : Name) (ns : List Name) (names : Names) → AreKnown names ns → is_among n ns ≡ true → IsKnown names n
+pub among_known : (n : Name) (ns : List Name) (names : Names) → AreKnown names ns → is_among n ns ≡ true → IsKnown names n
 among_known n [] names all h = cc
 among_known n (m ∷ ns) names all h = by (bytes_eq n m) refl h (among_known n ns names all.1)
   where

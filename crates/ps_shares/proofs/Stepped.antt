@@ -115,12 +115,12 @@ module _ (at : ℕ) (P : Table) where
 
 -- what a select gives
 abbrev pub AsZip : Zipped → Table → Type 0
-AsZip z P = (P.rows ≡ z.rows) × (P.broken ≡ z.broken) ⊎ (P.rows ≡ []) × (P.broken ≢ [])
+AsZip z P = (P.rows ≡ z.rows) × (is_empty P.broken ≡ is_empty z.broken) ⊎ (P.rows ≡ []) × (P.broken ≢ [])
 
 pub selected : (F : Functions) (at : ℕ) (es : List Named) (t P : Table) → Case F at (select es) (t ∷ []) P → (P.schema ≡ out_schema F at (select es) (t ∷ [])) × AsZip (zipped false at (columns_at at (exprs_of es) t)) P
 selected F at es t P (U, inl g, e) =
     let k : P ≡ table_of (out_schema F at (select es) (t ∷ [])) (λ rows. rows) (zipped false at (columns_at at (exprs_of es) t)) = e ∙ g in
-    (ap (λ (T : Table). T.schema) k, inl (ap (λ (T : Table). T.rows) k, ap (λ (T : Table). T.broken) k))
+    (ap (λ (T : Table). T.schema) k, inl (ap (λ (T : Table). T.rows) k, ap (λ (T : Table). is_empty T.broken) k))
 selected F at es t P (U, inr (V, g, some, u), e) =
     let k : P ≡ no_rows V.schema (lost_causes F at (select es) (t ∷ []) V.rows) = e ∙ u in
     (ap (λ (T : Table). T.schema) k ∙ ap (λ (T : Table). T.schema) g, inr (ap (λ (T : Table). T.rows) k, (λ none. some (sym (ap (λ (T : Table). T.broken) k) ∙ none))))
@@ -200,8 +200,8 @@ second_place m n k l apart =
     by (suc zero) lt h = refl
     by (suc (suc i)) lt h = absurd (omega arith)
 
-module _ (F : Functions) (at : ℕ) (name : Name) (d n : Bool) (e : Tree) (k : DataType) (t P S : Table) (typed : kind_over t.schema e ≡ Some k) (gives : Case F at (select ((name, e) ∷ [])) (t ∷ []) P) where
-  abbrev by_itself : SortStep
+module _ (F : Functions) (at : ℕ) (name : Name) (d n : Bool) (e : Tree) (k : DataType) (t P S : Table) (fields : P.schema ≡ (name, k) ∷ []) (as_zip : AsZip (zipped false at (eval at t e ∷ [])) P) where
+  abbrev pub by_itself : SortStep
   by_itself = record { keys = Tree.column name ∷ []; descending = d ∷ []; nulls_last = n ∷ []; cut = None }
 
   abbrev way : Direction
@@ -213,13 +213,10 @@ module _ (F : Functions) (at : ℕ) (name : Name) (d n : Bool) (e : Tree) (k : D
   abbrev sorted : Column
   sorted = eval at t (Tree.sort d n e)
 
-  fields : P.schema ≡ (name, k) ∷ []
-  fields = (selected F at ((name, e) ∷ []) t P gives).0 ∙ ap (λ o. unwrap_or (both (λ k fs. (name, k) ∷ fs) o (Some [])) []) typed
-
-  abbrev z : Zipped
+  abbrev pub z : Zipped
   z = zipped false at (those_at at P (0 ∷ 0 ∷ []))
 
-  keyed_as : keyed at by_itself.keys P ≡ z
+  pub keyed_as : keyed at by_itself.keys P ≡ z
   keyed_as =
       let index = ap (field_index name) fields ∙ first_place name k in
       λ i. zipped false at (map (λ j. column_at j P) (below (length (fields i))) ++ (record { cells = map value (values_at_some (index i) P.rows); broken = P.broken; lost = [] } ∷ []))
@@ -248,19 +245,21 @@ module _ (F : Functions) (at : ℕ) (name : Name) (d n : Bool) (e : Tree) (k : D
       nothing_shows (sorted ∷ []) S (ap (λ (T : Table). T.rows) k) (λ none. let w : x ∷ xs ≡ [] = sym (ap (λ (T : Table). T.broken) k) ∙ none in cc)
   by_broken [] q is (inr (rows, some)) = absurd (some (keyed_broken at P 0 (0 ∷ []) q))
   by_broken [] q is (inl (rows, broken)) =
-      whole_shows (sym broken ∙ keyed_broken at P 0 (0 ∷ []) q) rows q (is ∙ ap (λ b. if_whole P.schema b (table_of P.schema (sorted_rows by_itself 1) z)) q)
+      whole_shows (empty (zipped false at (c ∷ [])).broken (ap not (sym broken ∙ ap is_empty (keyed_broken at P 0 (0 ∷ []) q)))) rows q (is ∙ ap (λ b. if_whole P.schema b (table_of P.schema (sorted_rows by_itself 1) z)) q)
 
-  sort_shows : Case F at (sort by_itself) (P ∷ []) S → Shows S (sorted ∷ [])
+  pub sort_shows : Case F at (sort by_itself) (P ∷ []) S → Shows S (sorted ∷ [])
   sort_shows (U, inl g, e') =
       let is : S ≡ if_whole P.schema z.broken (table_of P.schema (sorted_rows by_itself 1) z) =
       e' ∙ g ∙ (λ i. if_whole P.schema (keyed_as i).broken (table_of P.schema (sorted_rows by_itself (length (fields i))) (keyed_as i))) in
-      by_broken z.broken refl is (selected F at ((name, e) ∷ []) t P gives).1
+      by_broken z.broken refl is as_zip
   sort_shows (U, inr (V, g, some, u), e') =
       let k : S ≡ no_rows V.schema (lost_causes F at (sort by_itself) (P ∷ []) V.rows) = e' ∙ u in
       nothing_shows (sorted ∷ []) S (ap (λ (T : Table). T.rows) k) (λ none. some (sym (ap (λ (T : Table). T.broken) k) ∙ none))
 
 pub sorts_show : SortsShow
-sorts_show F at name d n e k t P S typed gives case = sort_shows F at name d n e k t P S typed gives case
+sorts_show F at name d n e k t P S typed gives case =
+    let g = selected F at ((name, e) ∷ []) t P gives in
+    sort_shows F at name d n e k t P S (g.0 ∙ ap (λ o. unwrap_or (both (λ k fs. (name, k) ∷ fs) o (Some [])) []) typed) g.1 case
 
 -- filters
 abbrev more : List (List Value) → List (List Value)
@@ -275,39 +274,40 @@ kept_rows (row ∷ rows) = by (is_true (get_or row 1 val.Null)) (kept_rows rows)
     by true e = ap (λ rs. picked (0 ∷ 1 ∷ []) row ∷ rs) e
     by false e = e
 
-two_wide : (rows : List (List Value)) → AllByRecursion (λ (row : List Value). length row ≡ 2) (map (picked (0 ∷ 1 ∷ [])) rows)
+pub two_wide : (rows : List (List Value)) → AllByRecursion (λ (row : List Value). length row ≡ 2) (map (picked (0 ∷ 1 ∷ [])) rows)
 two_wide [] = tt
 two_wide (row ∷ rows) = (refl, two_wide rows)
 
-first_back : (rows : List (List Value)) → map value (values_at 0 (map (picked (0 ∷ 1 ∷ [])) rows)) ≡ map (λ row. value (get_or row 0 val.Null)) rows
+pub first_back : (rows : List (List Value)) → map value (values_at 0 (map (picked (0 ∷ 1 ∷ [])) rows)) ≡ map (λ row. value (get_or row 0 val.Null)) rows
 first_back [] = refl
 first_back (row ∷ rows) = ap (λ cs. value (get_or row 0 val.Null) ∷ cs) (first_back rows)
 
-second_back : (rows : List (List Value)) → map value (values_at 1 (map (picked (0 ∷ 1 ∷ [])) rows)) ≡ map (λ row. value (get_or row 1 val.Null)) rows
+pub second_back : (rows : List (List Value)) → map value (values_at 1 (map (picked (0 ∷ 1 ∷ [])) rows)) ≡ map (λ row. value (get_or row 1 val.Null)) rows
 second_back [] = refl
 second_back (row ∷ rows) = ap (λ cs. value (get_or row 1 val.Null) ∷ cs) (second_back rows)
 
-module _ (F : Functions) (at : ℕ) (m n : Name) (e by : Tree) (k l : DataType) (t P S : Table) (apart : m ≢ n) (typed : kind_over t.schema e ≡ Some k) (typed_by : kind_over t.schema by ≡ Some l)
-    (gives : Case F at (select ((m, e) ∷ (n, by) ∷ [])) (t ∷ []) P) where
-  abbrev Z : Zipped
+module _ (F : Functions) (at : ℕ) (m n : Name) (e by : Tree) (k l : DataType) (t P S : Table) (apart : m ≢ n) (both_fields : P.schema ≡ (m, k) ∷ (n, l) ∷ [])
+    (as_zip : AsZip (zipped false at (eval at t e ∷ eval at t by ∷ [])) P) where
+  abbrev pub Z : Zipped
   Z = zipped false at (eval at t e ∷ eval at t by ∷ [])
 
   abbrev shown : List Column
   shown = eval at t (Tree.filter e by) ∷ kept_second Z ∷ []
 
-  abbrev true_rows : List (List Value) → List (List Value)
+  abbrev pub true_rows : List (List Value) → List (List Value)
   true_rows rows = those (λ row. is_true (get_or row 1 val.Null)) rows
 
-  both_fields : P.schema ≡ (m, k) ∷ (n, l) ∷ []
-  both_fields = (selected F at ((m, e) ∷ (n, by) ∷ []) t P gives).0 ∙ (λ i. unwrap_or (both (λ k fs. (m, k) ∷ fs) (typed i) (both (λ l fs. (n, l) ∷ fs) (typed_by i) (Some []))) [])
-
-  abbrev y : Zipped
+  abbrev pub y : Zipped
   y = zipped false at (those_at at P (0 ∷ 1 ∷ 1 ∷ []))
 
-  filtered_as : keyed at (Tree.column n ∷ []) P ≡ y
+  pub filtered_as : keyed at (Tree.column n ∷ []) P ≡ y
   filtered_as =
       let index = ap (field_index n) both_fields ∙ second_place m n k l apart in
       λ i. zipped false at (map (λ j. column_at j P) (below (length (both_fields i))) ++ (record { cells = map value (values_at_some (index i) P.rows); broken = P.broken; lost = [] } ∷ []))
+
+  -- the rows that are kept, where the select has the rows of the zip
+  pub filtered : S ≡ table_of P.schema (where_true 2) y → P.rows ≡ Z.rows → S.rows ≡ map (picked (0 ∷ 1 ∷ [])) (true_rows Z.rows)
+  filtered is rows = ap (λ (T : Table). T.rows) is ∙ ap (where_true 2) (keyed_rows at P 0 (1 ∷ 1 ∷ [])) ∙ kept_rows P.rows ∙ ap (λ rows. map (picked (0 ∷ 1 ∷ [])) (true_rows rows)) rows
 
   by_select : S ≡ table_of P.schema (where_true 2) y → AsZip Z P → Shows S shown
   by_select is (inr (rows, some)) =
@@ -315,7 +315,7 @@ module _ (F : Functions) (at : ℕ) (m n : Name) (e by : Tree) (k l : DataType) 
       nothing_shows shown S (ap (λ (T : Table). T.rows) is ∙ none) (λ e. some (keyed_broken at P 0 (1 ∷ 1 ∷ []) (sym (ap (λ (T : Table). T.broken) is) ∙ e)))
   by_select is (inl (rows, broken)) =
       let T : Table = record { schema = (m, k) ∷ (n, l) ∷ []; rows = map (picked (0 ∷ 1 ∷ [])) (true_rows Z.rows); broken = Z.broken } in
-      let same : S.rows ≡ T.rows = ap (λ (T : Table). T.rows) is ∙ ap (where_true 2) (keyed_rows at P 0 (1 ∷ 1 ∷ [])) ∙ kept_rows P.rows ∙ ap (λ rows. map (picked (0 ∷ 1 ∷ [])) (true_rows rows)) rows in
+      let same : S.rows ≡ T.rows = filtered is rows in
       let s = inputs_show T (two_wide (true_rows Z.rows)) (λ none. cc) in
       let c0 = first_back (true_rows Z.rows) in
       let c1 = second_back (true_rows Z.rows) in
@@ -323,17 +323,19 @@ module _ (F : Functions) (at : ℕ) (m n : Name) (e by : Tree) (k l : DataType) 
       subst (λ cs. Shows T cs) (λ i. record { cells = c0 i; broken = Z.broken; lost = [] } ∷ record { cells = c1 i; broken = Z.broken; lost = [] } ∷ []) s in
       record {
         few = subst (λ rows. length rows ≤ zip_length false (extents shown)) (sym same) u.few;
-        whole = λ e. let w = u.whole (sym broken ∙ keyed_broken at P 0 (1 ∷ 1 ∷ []) (sym (ap (λ (T : Table). T.broken) is) ∙ e)) in (w.0, ap length same ∙ w.1);
+        whole = λ e. let w = u.whole (empty Z.broken (ap not (sym broken ∙ ap is_empty (keyed_broken at P 0 (1 ∷ 1 ∷ []) (sym (ap (λ (T : Table). T.broken) is) ∙ e))))) in (w.0, ap length same ∙ w.1);
         rows = λ i lt. u.rows i (subst (λ rows. i < length rows) same lt) ∙ sym (ap (λ rows. map value (get_or rows i [])) same);
       }
 
-  filter_shows : Case F at (filter (Tree.column n)) (P ∷ []) S → Shows S shown
+  pub filter_shows : Case F at (filter (Tree.column n)) (P ∷ []) S → Shows S shown
   filter_shows (U, inl g, e') =
       let is : S ≡ table_of P.schema (where_true 2) y = e' ∙ g ∙ (λ i. table_of P.schema (where_true (length (both_fields i))) (filtered_as i)) in
-      by_select is (selected F at ((m, e) ∷ (n, by) ∷ []) t P gives).1
+      by_select is as_zip
   filter_shows (U, inr (V, g, some, u), e') =
       let k : S ≡ no_rows V.schema (lost_causes F at (filter (Tree.column n)) (P ∷ []) V.rows) = e' ∙ u in
       nothing_shows shown S (ap (λ (T : Table). T.rows) k) (λ none. some (sym (ap (λ (T : Table). T.broken) k) ∙ none))
 
 pub filters_show : FiltersShow
-filters_show F at m n e by k l t P S apart typed typed_by gives case = filter_shows F at m n e by k l t P S apart typed typed_by gives case
+filters_show F at m n e by k l t P S apart typed typed_by gives case =
+    let g = selected F at ((m, e) ∷ (n, by) ∷ []) t P gives in
+    filter_shows F at m n e by k l t P S apart (g.0 ∙ (λ i. unwrap_or (both (λ k fs. (m, k) ∷ fs) (typed i) (both (λ l fs. (n, l) ∷ fs) (typed_by i) (Some []))) [])) g.1 case
