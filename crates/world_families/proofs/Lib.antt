@@ -1,0 +1,4 @@
+pub mod Members
+pub mod SourceExamples
+pub mod UnionExamples
+pub mod ZipExamples

@@ -1,0 +1,12 @@
+use Rattle.std.proofs.Common.{refl}
+use Rattle.world_families.proofs.ZipExamples.{not_before_it_is_done, not_overlapping, side_by_side}
+use Rattle.world_families.proofs.examples.zips_cut_side_by_side.Goals as goal
+
+pub returns-clause-side_by_side : goal.returns-clause-side_by_side
+returns-clause-side_by_side c = λ F. side_by_side F
+
+pub returns-clause-not_overlapping : goal.returns-clause-not_overlapping
+returns-clause-not_overlapping c = λ F h. not_overlapping F h
+
+pub returns-clause-not_before_it_is_done : goal.returns-clause-not_before_it_is_done
+returns-clause-not_before_it_is_done c = λ F h. not_before_it_is_done F h
