@@ -2,3 +2,7 @@ pub mod Members
 pub mod SourceExamples
 pub mod UnionExamples
 pub mod ZipExamples
+pub mod KeeperExamples
+pub mod JoinExamples
+pub mod OnwardExamples
+pub mod Begins

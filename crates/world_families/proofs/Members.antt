@@ -1,5 +1,5 @@
 -- What holds of each of a list, and rows that differ.
-use Rattle.std.proofs.Common.{◌≡◌, ℕ, zero, suc, List, [], ◌∷◌, ap, subst, arith}
+use Rattle.std.proofs.Common.{◌≡◌, ℕ, zero, suc, ◌<◌, List, [], ◌∷◌, Some, None, ap, subst, arith}
 use Rattle.std.specs.Prelude.{Contains, pos}
 use Rattle.std.specs.List.{AllByRecursion}
 use Rattle.ps_frame.specs.Tables.{Row}
@@ -26,3 +26,9 @@ first_number (r ∷ rs) = number_in r
 
 pub apart : (xs ys : List Row) → first_number xs ≡ 1 → first_number ys ≡ 2 → xs ≡ ys → ⊥
 apart xs ys one two e = let same = ap first_number e in absurd (omega arith)
+
+pub nothing_is : {A : Type 0} (x : A) → None ≡ Some x → ⊥
+nothing_is x e = cc
+
+pub smaller : (a b : ℕ) → a < b → a ≡ b → ⊥
+smaller a b h e = absurd (omega arith)

@@ -1,16 +1,20 @@
 -- Small worlds of one node and its pipes, in the middle of a phase.
-use Rattle.std.specs.Prelude.{ℕ, Bool, true, false, List, [], ◌∷◌, ◌++◌, map, Option, Some, None, codes, pos, length}
+use Rattle.std.specs.Prelude.{ℕ, true, false, List, [], ◌∷◌, Option, Some, None, codes, pos}
 use Rattle.std.proofs.Math.Facts.{leb_yes}
 use Rattle.ps_frame.specs.Tables.{Fields, Row}
+use Rattle.ps_frame.specs.Trees.{Tree}
 use Rattle.ps_frame.specs.declared.value.DataType.TheVariants as kind
 use Rattle.ps_frame.specs.declared.value.Value.TheVariants as val
-use Rattle.ps_meaning.specs.Shape.{PhysicalKind, PhysicalNode, in_memory_source, ordered_union, with_row_index, zip_node}
+use Rattle.ps_meaning.specs.Shape.{PhysicalKind, PhysicalNode, equi_join, group_by_node, in_memory_source, multiplexer, negative_slice, ordered_union, reduce, with_row_index, zip_node}
+use Rattle.ps_meaning.specs.Steps.{JoinStep}
+use Rattle.ps_meaning.specs.declared.options.JoinType.TheVariants as how
+use Rattle.ps_meaning.specs.declared.options.JoinValidation.TheVariants as validation
 use Rattle.ps_options.specs.declared.options.Options.{Options}
 use Rattle.ps_ports.specs.Ports.{is_ready}
 use Rattle.ps_ports.specs.declared.port_state.PortState.{PortState}
 use Rattle.ps_ports.specs.declared.port_state.PortState.TheVariants as port
-use Rattle.ps_turns.specs.Progress.{Progress, taking}
-use Rattle.ps_turns.specs.Tasks.{Piece, Task, computes, hands_on}
+use Rattle.ps_turns.specs.Progress.{Progress, giving, taking}
+use Rattle.ps_turns.specs.Tasks.{Piece, Task, computes, hands_on, keeps, probes}
 use Rattle.ps_world.specs.World.{Node, Pipe, World, running}
 
 -- two workers, and morsels of one row
@@ -111,3 +115,65 @@ both_cuts = zip_piece 0 (row 1 ∷ row 2 ∷ []) (row 7 ∷ []) ∷ zip_piece 1 
 -- the second cut has a row of the first once more
 abbrev pub overlapping : List Piece
 overlapping = zip_piece 0 (row 1 ∷ row 2 ∷ []) (row 7 ∷ []) ∷ zip_piece 1 (row 2 ∷ row 3 ∷ []) (row 7 ∷ []) ∷ []
+
+-- a slice of one row from two before the end, which read three rows
+abbrev pub an_end : List (List Row) → Node
+an_end store = node_of (negative_slice 2 1) ((0, 0) ∷ []) (progress_of 0 3 (store ∷ []))
+
+abbrev pub end_world : List (List Row) → World
+end_world store = world (a_sender ∷ an_end store ∷ []) (pipe 0 1 0 port.Ready (came (row 1) ∷ Some (row 2 ∷ row 3 ∷ []) ∷ []) 2 ∷ pipe 1 2 0 port.Blocked [] 0 ∷ []) []
+
+-- a reduce that took two morsels, and its pieces
+abbrev pub a_reduce : slots → Node
+a_reduce kept = node_of (reduce []) ((0, 0) ∷ []) (record { stage = taking; sent = 0; booked = 0; stores = []; taken = kept ∷ []; made = None; lists = [] })
+
+abbrev pub keeping : (number : ℕ) → List Row → Piece
+keeping k rows = piece 1 k k (keeps (physical (reduce []) ((0, 0) ∷ []))) (a_schema ∷ []) (rows ∷ [])
+
+abbrev pub reduce_world : slots → List Piece → World
+reduce_world kept outs = world (a_sender ∷ a_reduce kept ∷ []) (pipe 0 1 0 port.Ready (came (row 1) ∷ came (row 2) ∷ []) 2 ∷ pipe 1 2 0 port.Blocked [] 0 ∷ []) outs
+
+-- a group-by of rows with two keys, and lists of these keys
+abbrev pub by_a : PhysicalNode
+by_a = physical (group_by_node ((codes "a", Tree.column (codes "a")) ∷ []) []) ((0, 0) ∷ [])
+
+abbrev pub grouped_rows : List Row
+grouped_rows = row 1 ∷ row 2 ∷ row 1 ∷ []
+
+-- a join by equal keys that probes: it kept two right rows, and took two left morsels
+abbrev pub on_a : JoinStep
+on_a = record { left_on = Tree.column (codes "a") ∷ []; right_on = Tree.column (codes "a") ∷ []; args = record { how = how.Inner; suffix = None; join_nulls = false; validation = validation.ManyToMany; slice = None } }
+
+abbrev pub a_join : Node
+a_join = node_of (equi_join on_a) ((0, 0) ∷ (1, 0) ∷ []) (record { stage = giving; sent = 0; booked = 0; stores = []; taken = [] ∷ (came (row 2) ∷ came (row 3) ∷ []) ∷ []; made = None; lists = [] })
+
+abbrev pub probing : (number : ℕ) → (left right : List Row) → Piece
+probing k left right = piece 2 k k (probes (physical (equi_join on_a) ((0, 0) ∷ (1, 0) ∷ [])) on_a) (a_schema ∷ a_schema ∷ []) (left ∷ right ∷ [])
+
+abbrev pub left_input : Pipe
+left_input = pipe 0 2 0 port.Ready (came (row 1) ∷ came (row 2) ∷ []) 2
+
+abbrev pub right_input : Pipe
+right_input = pipe 1 2 1 port.Done (came (row 2) ∷ came (row 3) ∷ []) 2
+
+abbrev pub join_world : List Piece → World
+join_world outs = world (a_sender ∷ a_sender ∷ a_join ∷ []) (left_input ∷ right_input ∷ pipe 2 3 0 port.Ready (None ∷ None ∷ []) 0 ∷ []) outs
+
+-- a row index that took two morsels
+abbrev pub an_index : (booked : ℕ) → Node
+an_index booked = node_of (with_row_index (codes "i") None) ((0, 0) ∷ []) (progress_of 0 booked [])
+
+abbrev pub indexing : (number from : ℕ) → List Row → Piece
+indexing k from rows = piece 1 k k (computes (physical (with_row_index (codes "i") (Some from)) ((0, 0) ∷ []))) (a_schema ∷ []) (rows ∷ [])
+
+abbrev pub index_world : (booked : ℕ) → List Piece → World
+index_world booked outs = world (a_sender ∷ an_index booked ∷ []) (pipe 0 1 0 port.Ready (Some (row 1 ∷ row 2 ∷ []) ∷ came (row 3) ∷ []) 2 ∷ pipe 1 2 0 port.Ready (None ∷ None ∷ []) 0 ∷ []) outs
+
+-- a multiplexer that read two morsels into its two ports, of which the second's reader was done after the first
+abbrev pub a_port : (port receiver : ℕ) → PortState → slots → Pipe
+a_port k r receive got = record { wire = record { sender = 1; port = k; receiver = r; input = 0; send_state = port.Ready; receive_state = receive }; got = got; next = 0; in_phase = false; is_closed = false; is_dropped = false; is_unread = false }
+
+abbrev pub ports_world : (first second : slots) → World
+ports_world first second =
+    world (a_sender ∷ node_of multiplexer ((0, 0) ∷ []) (progress_of 0 0 []) ∷ [])
+    (pipe 0 1 0 port.Ready (came (row 1) ∷ came (row 2) ∷ came (row 3) ∷ []) 2 ∷ a_port 0 2 port.Blocked first ∷ a_port 1 3 port.Done second ∷ []) []

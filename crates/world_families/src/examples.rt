@@ -1,11 +1,17 @@
 // Small worlds in which a node keeps what its family keeps, and others, different in one place, in which it doesn't, as theorems of functions that do nothing.
-ghost use Rattle.std.specs.Prelude.{◌≡◌, ℕ, None, Some, [], ◌∷◌, IsTrue, true, false};
+ghost use Rattle.std.specs.Prelude.{◌≡◌, None, Some, [], ◌∷◌, true, false};
 ghost use Rattle.ps_frame.specs.Functions.{Functions};
 ghost use Rattle.ps_ports.specs.declared.port_state.PortState.TheVariants as port;
-ghost use Rattle.world_families.specs.Examples.{a_source, a_union, a_zip, both_cuts, came, handing, long_input, overlapping, row, single_input, source_world, three_rows, union_world, zip_world};
+ghost use Rattle.ps_turns.specs.Keys.{IsSplit};
+ghost use Rattle.ps_turns.specs.Tables.{whole_table};
+ghost use Rattle.world_families.specs.Examples.{a_join, a_reduce, a_schema, a_source, a_union, a_zip, an_end, an_index, both_cuts, by_a, came, end_world, grouped_rows, handing, index_world, indexing, join_world, keeping, long_input, on_a, overlapping, ports_world, probing, reduce_world, row, single_input, source_world, three_rows, union_world, zip_world};
+ghost use Rattle.world_families.specs.Joins.{HoldsJoin};
+ghost use Rattle.world_families.specs.Keepers.{HoldsMade, KeepsMorsels};
+ghost use Rattle.world_families.specs.Onward.{HoldsPassing, HoldsPorts};
 ghost use Rattle.world_families.specs.Sources.{HoldsSource};
 ghost use Rattle.world_families.specs.Unions.{HoldsUnion};
-ghost use Rattle.world_families.specs.Zips.{HoldsZip, broadcasts, rows_in_cut};
+ghost use Rattle.world_families.specs.Work.{PipesHold};
+ghost use Rattle.world_families.specs.Zips.{HoldsZip, rows_in_cut};
 
 /// A source may have its second cut handed in before the first, which is out. Under a number stands its own cut and no other, and its pipe isn't complete before the last.
 pub fn sources_give_their_cuts()
@@ -30,4 +36,44 @@ pub fn zips_cut_side_by_side()
     ensures single_row { rows_in_cut false 2 3 (single_input port.Done) ≡ row 7 ∷ [] }
     ensures not_with_extension { rows_in_cut true 2 3 (single_input port.Done) ≡ [] }
     ensures own_rows { rows_in_cut false 2 3 long_input ≡ row 3 ∷ [] }
+{}
+
+/// A slice from the end may let go of what it can't give: of three rows it keeps two. One isn't enough.
+pub fn slices_keep_their_end()
+    ensures two_rows { (F : Functions) → HoldsMade F (end_world ((row 2 ∷ row 3 ∷ []) ∷ [])) 1 (an_end ((row 2 ∷ row 3 ∷ []) ∷ [])) }
+    ensures not_one_row { (F : Functions) → ¬ HoldsMade F (end_world ((row 3 ∷ []) ∷ [])) 1 (an_end ((row 3 ∷ []) ∷ [])) }
+{}
+
+/// What a reduce took is out, morsel by morsel. A slot keeps no other morsel than that of its number, and waits for a piece.
+pub fn reduces_keep_morsels()
+    ensures both_out { (F : Functions) → KeepsMorsels F (reduce_world (None ∷ None ∷ []) (keeping 1 (row 2 ∷ []) ∷ keeping 0 (row 1 ∷ []) ∷ [])) 1 (a_reduce (None ∷ None ∷ [])) 0 }
+    ensures no_other_morsel { (F : Functions) → ¬ KeepsMorsels F (reduce_world (came (row 2) ∷ None ∷ []) (keeping 1 (row 2 ∷ []) ∷ [])) 1 (a_reduce (came (row 2) ∷ None ∷ [])) 0 }
+    ensures not_forgotten { (F : Functions) → ¬ KeepsMorsels F (reduce_world (None ∷ None ∷ []) (keeping 1 (row 2 ∷ []) ∷ [])) 1 (a_reduce (None ∷ None ∷ [])) 0 }
+{}
+
+/// The keys 1 and 2 of three rows are split where each stands in one list, and not where one stands in two.
+pub fn lists_split_keys()
+    ensures one_list_each { IsSplit by_a (whole_table a_schema grouped_rows ∷ []) 2 ((row 1 ∷ []) ∷ (row 2 ∷ []) ∷ []) }
+    ensures not_in_two { ¬ IsSplit by_a (whole_table a_schema grouped_rows ∷ []) 2 ((row 1 ∷ []) ∷ (row 1 ∷ row 2 ∷ []) ∷ []) }
+{}
+
+/// While a join probes, each left morsel goes over all right rows, and not over a part of them.
+pub fn joins_probe_all_right_rows()
+    ensures all_rows { (F : Functions) → HoldsJoin F (join_world (probing 1 (row 2 ∷ []) (row 2 ∷ row 3 ∷ []) ∷ probing 0 (row 1 ∷ []) (row 2 ∷ row 3 ∷ []) ∷ [])) 2 a_join on_a }
+    ensures not_a_part { (F : Functions) → ¬ HoldsJoin F (join_world (probing 1 (row 2 ∷ []) (row 2 ∷ []) ∷ [])) 2 a_join on_a }
+{}
+
+/// A row index numbers each morsel behind the rows of those before, and has booked what it took.
+pub fn indexes_count_on()
+    ensures goes_on { (F : Functions) → HoldsPassing F (index_world 3 (indexing 1 2 (row 3 ∷ []) ∷ indexing 0 0 (row 1 ∷ row 2 ∷ []) ∷ [])) 1 (an_index 3) }
+    ensures not_anew { (F : Functions) → ¬ HoldsPassing F (index_world 3 (indexing 1 0 (row 3 ∷ []) ∷ [])) 1 (an_index 3) }
+    ensures not_short { (F : Functions) → ¬ HoldsPassing F (index_world 2 []) 1 (an_index 2) }
+{}
+
+/// An open port got all that its multiplexer read; one whose reader is done may have got less, and is then unread.
+pub fn ports_get_what_came()
+    ensures a_front { HoldsPorts (ports_world (came (row 1) ∷ came (row 2) ∷ []) (came (row 1) ∷ [])) 1 }
+    ensures not_less_while_open { ¬ HoldsPorts (ports_world (came (row 1) ∷ []) (came (row 1) ∷ [])) 1 }
+    ensures not_the_others { ¬ HoldsPorts (ports_world (came (row 1) ∷ came (row 2) ∷ []) (came (row 2) ∷ [])) 1 }
+    ensures unread { ¬ PipesHold (ports_world (came (row 1) ∷ came (row 2) ∷ []) (came (row 1) ∷ [])) 1 }
 {}
