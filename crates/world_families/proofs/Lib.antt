@@ -6,3 +6,9 @@ pub mod KeeperExamples
 pub mod JoinExamples
 pub mod OnwardExamples
 pub mod Begins
+pub mod Complete
+pub mod Sent
+pub mod Cuts
+pub mod SourceLaw
+pub mod Inputs
+pub mod UnionLaw

@@ -1,12 +1,29 @@
 // What each family keeps holds at the opening, and gives the first part of its law, as theorems of functions that do nothing.
-ghost use Rattle.std.specs.Prelude.{ℕ};
+ghost use Rattle.std.specs.Prelude.{◌≡◌, ℕ, List, Some, slice_get};
 ghost use Rattle.ps_frame.specs.Functions.{Functions};
-ghost use Rattle.ps_meaning.specs.Shape.{Shape};
+ghost use Rattle.ps_frame.specs.Tables.{Frame};
+ghost use Rattle.ps_meaning.specs.Shape.{PhysicalNode, Shape, in_memory_source, independent_select, ordered_union};
+ghost use Rattle.ps_meaning.specs.Sound.{input_schemas};
+ghost use Rattle.ps_meaning.specs.Steps.{Named};
 ghost use Rattle.ps_options.specs.declared.options.Options.{Options};
+ghost use Rattle.ps_world.specs.Laws.{Justified, sent_at, sent_to};
 ghost use Rattle.ps_world.specs.Opening.{opening};
+ghost use Rattle.ps_world.specs.World.{World, shape_of};
+ghost use Rattle.world_claims.specs.Numbering.{Known};
 ghost use Rattle.world_families.specs.Holds.{Holds};
 
 /// The opening of a shape keeps it of every node.
 pub fn openings_hold()
     ensures { (F : Functions) (shape : Shape) (o : Options) (n : ℕ) → Holds F (opening shape o) n }
+{}
+
+/// What a source has sent is a front of its rows, and all of them where it is complete; a select without input has sent nothing yet, or a table that it may give.
+pub fn sources_are_justified()
+    ensures source { (F : Functions) (w : World) (n : ℕ) (p : PhysicalNode) (t : Frame) → Known F w → slice_get (shape_of w) n ≡ Some p → p.kind ≡ in_memory_source t → Holds F w n → Justified F p (input_schemas (shape_of w) p) (sent_to (sent_at w) p) (sent_at w n) }
+    ensures select { (F : Functions) (w : World) (n : ℕ) (p : PhysicalNode) (es : List Named) → Known F w → slice_get (shape_of w) n ≡ Some p → p.kind ≡ independent_select es → Holds F w n → Justified F p (input_schemas (shape_of w) p) (sent_to (sent_at w) p) (sent_at w n) }
+{}
+
+/// What a union has sent is a front of its inputs' rows, one input after the other.
+pub fn unions_are_justified()
+    ensures { (F : Functions) (w : World) (n : ℕ) (p : PhysicalNode) → Known F w → slice_get (shape_of w) n ≡ Some p → p.kind ≡ ordered_union → Holds F w n → Justified F p (input_schemas (shape_of w) p) (sent_to (sent_at w) p) (sent_at w n) }
 {}
