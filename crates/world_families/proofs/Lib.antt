@@ -9,6 +9,9 @@ pub mod Begins
 pub mod Complete
 pub mod Sent
 pub mod Cuts
+pub mod OneAnswer
+pub mod SelectSchema
 pub mod SourceLaw
 pub mod Inputs
 pub mod UnionLaw
+pub mod ReduceLaw

@@ -19,6 +19,8 @@ use Rattle.world_claims.specs.Numbering.{Known, counts_own}
 use Rattle.world_families.proofs.Complete.{filled, whole}
 use Rattle.world_families.proofs.Cuts.{Cuts, cuts_all, cuts_front}
 use Rattle.world_families.proofs.Members.{nothing_is, smaller}
+use Rattle.world_families.proofs.OneAnswer.{each_served}
+use Rattle.world_families.proofs.SelectSchema.{before_schema, gives_over, table_over}
 use Rattle.world_families.proofs.Sent.{each_port, is_sink, node_of, one_table}
 use Rattle.world_families.specs.Holds.{Holds, HoldsOfKind}
 use Rattle.world_families.specs.Sources.{HasGivenAll, HoldsSelect, cut_work}
@@ -101,20 +103,16 @@ module _ (F : Functions) (w : World) (n : ℕ) (node : Node) (es : List Named) (
   abbrev MayBe : Table → Type 0
   MayBe T = (T.schema ≡ node.node.schema) × PhysicalCase F node.node [] T
 
-  before_schema : (U : Table) → GivesBeforeCut F node.node.origin (select es) (no_rows [] [] ∷ []) U → U.schema ≡ given_schema
-  before_schema U (inl e) = ap (λ (x : Table). x.schema) e
-  before_schema U (inr (V, e, some, lost)) = ap (λ (x : Table). x.schema) lost ∙ ap (λ (x : Table). x.schema) e
-
   case_schema : (T : Table) → PhysicalCase F (record node.node { kind = independent_select es }) [] T → T.schema ≡ node.node.schema
-  case_schema T (U, before, is) = ap (λ (x : Table). x.schema) is ∙ before_schema U before ∙ given_schema_is
+  case_schema T (U, before, is) = ap (λ (x : Table). x.schema) is ∙ before_schema F node.node.origin es (no_rows [] [] ∷ []) U before ∙ given_schema_is
 
   to_kind : (T : Table) → PhysicalCase F node.node [] T → PhysicalCase F (record node.node { kind = independent_select es }) [] T
   to_kind T c = subst (λ (k : PhysicalKind). PhysicalCase F (record node.node { kind = k }) [] T) is_one c
 
   some_table : (T : Table) × MayBe T
   some_table =
-      let T = table_of given_schema (λ rows. rows) (zipped false node.node.origin (columns_at node.node.origin (exprs_of es) (no_rows [] []))) in
-      let c : PhysicalCase F (record node.node { kind = independent_select es }) [] T = (T, inl refl, refl) in
+      let T = table_over F node.node.origin es (no_rows [] [] ∷ []) in
+      let c : PhysicalCase F (record node.node { kind = independent_select es }) [] T = (T, gives_over F node.node.origin es (no_rows [] [] ∷ []), refl) in
       (T, (case_schema T c, subst (λ (k : PhysicalKind). PhysicalCase F (record node.node { kind = k }) [] T) (sym is_one) c))
 
   -- what it gives doesn't look at any input
@@ -122,15 +120,11 @@ module _ (F : Functions) (w : World) (n : ℕ) (node : Node) (es : List Named) (
   over_any Ts T c = subst (λ (k : PhysicalKind). PhysicalCase F (record node.node { kind = k }) Ts T) (sym is_one) (to_kind T c)
 
   module _ (g : HoldsSelect F w n node) where
-    -- a table that the node may give and that this pipe extends to
-    abbrev Served : Pipe → Type 0
-    Served p = (T : Table) × MayBe T × Extends (sent_by p) T
-
-    -- nothing stands under another number than 0
-    no_more : (p : Pipe) (rs : List Row) (slots : List (Option (List Row))) → Leaves w n p → p.got ≡ Some rs ∷ slots → rows_in_order slots ≡ []
-    no_more p rs [] l e = refl
-    no_more p rs (None ∷ slots) l e = refl
-    no_more p rs (Some b ∷ slots) l e = let a = g.answers p 1 b l (ap (λ xs. slice_get xs 1) e) in let never : 1 ≡ 0 = a.1.0 in absurd (smaller 0 1 (omega arith) (sym never))
+    answered : (p : Pipe) (rs : List Row) → Leaves w n p → slice_get p.got 0 ≡ Some (Some rs) → (T : Table) × MayBe T × IsWhole T × (T.rows ≡ rs)
+    answered p rs l at =
+        let a = g.answers p 0 rs l at in
+        let m : Answers F (record { task = computes node.node; schemas = []; tables = [] }) rs = subst (λ x. Answers F x rs) a.1.1 a.2 in
+        (m.0, (case_schema m.0 (to_kind m.0 m.1), m.1), m.2, m.3)
 
     started : (p : Pipe) → Leaves w n p → IsComplete p → (rs : List Row) × (slice_get p.got 0 ≡ Some (Some rs))
     started p l c =
@@ -138,27 +132,10 @@ module _ (F : Functions) (w : World) (n : ℕ) (node : Node) (es : List Named) (
         let long = (known.numbers n node there).own (ap counts_own is_one) p l.0 l.1 (whole p c).dropped in
         filled F w p known l.0 (from_single w n node p there (ap is_multiplexer is_one) l.1) c 0 (omega arith)
 
-    unanswered : (p : Pipe) → Leaves w n p → rows_in_order p.got ≡ [] → (IsComplete p → ⊥) → Served p
-    unanswered p l none partial =
-        let T = some_table in
-        (T.0, T.1, record { rest = T.0.rows; begins = ap (λ rs. rs ++ T.0.rows) none; ends = λ c. absurd (partial c) })
-
-    each : (p : Pipe) → Leaves w n p → Served p
-    each p l = by p.got refl
-      where
-        by : (slots : List (Option (List Row))) → p.got ≡ slots → Served p
-        by [] e = unanswered p l (ap rows_in_order e) (λ c. let s = started p l c in nothing_is (Some s.0) (sym (ap (λ xs. slice_get xs 0) e) ∙ s.1))
-        by (None ∷ slots) e = unanswered p l (ap rows_in_order e) (λ c. let s = started p l c in let never : Some None ≡ Some (Some s.0) = sym (ap (λ xs. slice_get xs 0) e) ∙ s.1 in cc)
-        by (Some rs ∷ slots) e =
-            let a = g.answers p 0 rs l (ap (λ xs. slice_get xs 0) e) in
-            let m : Answers F (record { task = computes node.node; schemas = []; tables = [] }) rs = subst (λ x. Answers F x rs) a.1.1 a.2 in
-            let all : rows_in_order p.got ≡ m.0.rows = ap rows_in_order e ∙ ap (λ z. rs ++ z) (no_more p rs slots l e) ∙ append-nil rs ∙ sym m.3 in
-            (m.0, (case_schema m.0 (to_kind m.0 m.1), m.1), record { rest = []; begins = append-nil (rows_in_order p.got) ∙ all; ends = λ c. (all, m.2) })
-
     select_without_input : Justified F node.node (input_schemas (shape_of w) node.node) (sent_to (sent_at w) node.node) (sent_at w n)
     select_without_input Ts e m =
         let one : (p q : Pipe) → Leaves w n p → Leaves w n q → p ≡ q = λ p q a b. known.facts.one_output p q a.0 b.0 (a.1 ∙ sym b.1) (from_single w n node p there (ap is_multiplexer is_one) a.1) in
-        let T = one_table w n node MayBe there (ap is_sink is_one) one some_table each in
+        let T = one_table w n node MayBe there (ap is_sink is_one) one some_table (each_served w n MayBe some_table (λ p k rs l at. (g.answers p k rs l at).1.0) answered started) in
         (T.0, T.1.0, over_any Ts T.0 T.1.1, T.2)
 
 pub selects_justified : (F : Functions) (w : World) (n : ℕ) (p : PhysicalNode) (es : List Named) → Known F w → slice_get (shape_of w) n ≡ Some p → p.kind ≡ independent_select es → Holds F w n → Justified F p (input_schemas (shape_of w) p) (sent_to (sent_at w) p) (sent_at w n)

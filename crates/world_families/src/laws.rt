@@ -2,7 +2,7 @@
 ghost use Rattle.std.specs.Prelude.{◌≡◌, ℕ, List, Some, slice_get};
 ghost use Rattle.ps_frame.specs.Functions.{Functions};
 ghost use Rattle.ps_frame.specs.Tables.{Frame};
-ghost use Rattle.ps_meaning.specs.Shape.{PhysicalNode, Shape, in_memory_source, independent_select, ordered_union};
+ghost use Rattle.ps_meaning.specs.Shape.{PhysicalNode, Shape, in_memory_source, independent_select, ordered_union, reduce};
 ghost use Rattle.ps_meaning.specs.Sound.{input_schemas};
 ghost use Rattle.ps_meaning.specs.Steps.{Named};
 ghost use Rattle.ps_options.specs.declared.options.Options.{Options};
@@ -26,4 +26,9 @@ pub fn sources_are_justified()
 /// What a union has sent is a front of its inputs' rows, one input after the other.
 pub fn unions_are_justified()
     ensures { (F : Functions) (w : World) (n : ℕ) (p : PhysicalNode) → Known F w → slice_get (shape_of w) n ≡ Some p → p.kind ≡ ordered_union → Holds F w n → Justified F p (input_schemas (shape_of w) p) (sent_to (sent_at w) p) (sent_at w n) }
+{}
+
+/// What a reduce has sent is the one row of a table that it may give, and nothing before that.
+pub fn reduces_are_justified()
+    ensures { (F : Functions) (w : World) (n : ℕ) (p : PhysicalNode) (es : List Named) → Known F w → slice_get (shape_of w) n ≡ Some p → p.kind ≡ reduce es → Holds F w n → Justified F p (input_schemas (shape_of w) p) (sent_to (sent_at w) p) (sent_at w n) }
 {}
