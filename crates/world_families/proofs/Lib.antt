@@ -15,3 +15,9 @@ pub mod SourceLaw
 pub mod Inputs
 pub mod UnionLaw
 pub mod ReduceLaw
+pub mod Outputs
+pub mod SourceSteps
+pub mod SourceKeeps
+pub mod SourceOpens
+pub mod MadeTables
+pub mod MadeLaw

@@ -1,13 +1,20 @@
 -- Sources: each number stands for the next cut of the same rows.
-use Rattle.std.specs.Prelude.{◌≡◌, ℕ, List, [], ◌∷◌, IsTrue}
+use Rattle.std.specs.Prelude.{◌≡◌, ℕ, List, [], ◌∷◌, IsTrue, ⊤}
 use Rattle.ps_frame.specs.Functions.{Functions}
 use Rattle.ps_frame.specs.Tables.{Fields, Row}
+use Rattle.ps_meaning.specs.Shape.{PhysicalKind, in_memory_source, independent_select}
 use Rattle.ps_options.specs.declared.options.Options.{Options}
 use Rattle.ps_turns.specs.Cuts.{cut_of_source}
 use Rattle.ps_turns.specs.Tasks.{Piece, computes, hands_on}
 use Rattle.ps_turns.specs.Updates.{has_given_all}
 use Rattle.ps_world.specs.World.{Node, World}
 use Rattle.world_families.specs.Work.{Gives, Work}
+
+-- what needs no input
+abbrev pub IsSource : PhysicalKind → Type 0
+IsSource (in_memory_source t) = ⊤
+IsSource (independent_select es) = ⊤
+IsSource _ = ⊥
 
 abbrev pub KeepsNone : Piece → Type 0
 KeepsNone q = ⊥

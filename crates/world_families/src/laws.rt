@@ -1,16 +1,20 @@
 // What each family keeps holds at the opening, and gives the first part of its law, as theorems of functions that do nothing.
-ghost use Rattle.std.specs.Prelude.{◌≡◌, ℕ, List, Some, slice_get};
-ghost use Rattle.ps_frame.specs.Functions.{Functions};
+ghost use Rattle.std.specs.Prelude.{◌≡◌, ℕ, IsFalse, IsTrue, List, Some, slice_get};
+ghost use Rattle.ps_frame.specs.Functions.{Functions, IsLawful};
 ghost use Rattle.ps_frame.specs.Tables.{Frame};
 ghost use Rattle.ps_meaning.specs.Shape.{PhysicalNode, Shape, in_memory_source, independent_select, ordered_union, reduce};
 ghost use Rattle.ps_meaning.specs.Sound.{input_schemas};
 ghost use Rattle.ps_meaning.specs.Steps.{Named};
 ghost use Rattle.ps_options.specs.declared.options.Options.{Options};
+ghost use Rattle.ps_turns.specs.Progress.{makes_table};
 ghost use Rattle.ps_world.specs.Laws.{Justified, sent_at, sent_to};
 ghost use Rattle.ps_world.specs.Opening.{opening};
-ghost use Rattle.ps_world.specs.World.{World, shape_of};
+ghost use Rattle.ps_world.specs.Step.{Steps};
+ghost use Rattle.ps_world.specs.Updates.{Updates};
+ghost use Rattle.ps_world.specs.World.{Record, World, shape_of};
 ghost use Rattle.world_claims.specs.Numbering.{Known};
 ghost use Rattle.world_families.specs.Holds.{Holds};
+ghost use Rattle.world_families.specs.Sources.{IsSource};
 
 /// The opening of a shape keeps it of every node.
 pub fn openings_hold()
@@ -31,4 +35,15 @@ pub fn unions_are_justified()
 /// What a reduce has sent is the one row of a table that it may give, and nothing before that.
 pub fn reduces_are_justified()
     ensures { (F : Functions) (w : World) (n : ℕ) (p : PhysicalNode) (es : List Named) → Known F w → slice_get (shape_of w) n ≡ Some p → p.kind ≡ reduce es → Holds F w n → Justified F p (input_schemas (shape_of w) p) (sent_to (sent_at w) p) (sent_at w n) }
+{}
+
+/// What a map, an in-memory join or a negative slice has sent is a front of a table that it may give over all that came, and nothing before that.
+pub fn tables_are_justified()
+    ensures { (F : Functions) (w : World) (n : ℕ) (p : PhysicalNode) → IsLawful F → Known F w → slice_get (shape_of w) n ≡ Some p → IsTrue (makes_table p.kind) → Holds F w n → Justified F p (input_schemas (shape_of w) p) (sent_to (sent_at w) p) (sent_at w n) }
+{}
+
+/// Every step keeps it of a source, and so do updates and fills between phases.
+pub fn sources_keep()
+    ensures steps { (F : Functions) (w v : World) (r : Record) (n : ℕ) (p : PhysicalNode) → Known F w → slice_get (shape_of w) n ≡ Some p → IsSource p.kind → Steps F w r v → Holds F w n → Holds F v n }
+    ensures updates { (F : Functions) (w s : World) (n : ℕ) (p : PhysicalNode) → Known F w → slice_get (shape_of w) n ≡ Some p → IsSource p.kind → IsFalse w.is_open → Updates F w s → Holds F w n → Holds F s n }
 {}
