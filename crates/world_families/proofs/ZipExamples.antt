@@ -97,8 +97,8 @@ module _ (F : Functions) where
       by_piece (inl a) = a
       by_piece (inr never) = absurd never
 
-  pub not_before_it_is_done : HoldsZip F (zip_world port.Ready both_cuts) 2 a_zip false → ⊥
-  not_before_it_is_done h = by ((h.cuts 1 (omega arith)).served (single_input port.Ready) ((1, omega arith, refl), refl))
+  pub not_before_it_is_complete : HoldsZip F (zip_world port.Ready both_cuts) 2 a_zip false → ⊥
+  not_before_it_is_complete h = by ((h.cuts 1 (omega arith)).served (single_input port.Ready) ((1, omega arith, refl), refl))
     where
       by : ServesCut false (h.before 1) (h.before 2) (single_input port.Ready) → ⊥
       by (inl b) = let no : false ≡ true = b in cc

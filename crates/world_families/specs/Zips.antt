@@ -6,13 +6,14 @@ use Rattle.ps_ports.specs.Ports.{is_done}
 use Rattle.ps_turns.specs.Heads.{is_single, stored_rows}
 use Rattle.ps_turns.specs.Tasks.{computes}
 use Rattle.ps_world.specs.Facts.{IsWorking}
+use Rattle.ps_world.specs.Laws.{sent_by}
 use Rattle.ps_world.specs.World.{Node, Pipe, World, pipes_in, schemas_for}
 use Rattle.world_families.specs.Sources.{KeepsNone}
 use Rattle.world_families.specs.Work.{AllComplete, Enters, Gives, IsComplete, Leaves, Work, rows_read}
 
--- without extension an input that is done and had one row broadcasts it
+-- without extension an input that is complete and had one row broadcasts it
 abbrev pub broadcasts : (extend : Bool) → Pipe → Bool
-broadcasts extend q = is_single extend (record { rows = rows_read q; is_over = is_done q.wire.send_state })
+broadcasts extend q = is_single extend (record { rows = rows_read q; is_over = (sent_by q).is_complete })
 
 -- an input's rows in the cut from one number of rows up to another
 abbrev pub rows_in_cut : (extend : Bool) (start end : ℕ) → Pipe → List Row

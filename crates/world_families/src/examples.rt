@@ -28,11 +28,11 @@ pub fn unions_go_input_by_input()
     ensures not_the_other_way { (F : Functions) → ¬ HoldsUnion F (union_world port.Done (came (row 2) ∷ None ∷ [])) 2 a_union }
 {}
 
-/// Cuts of a zip lie side by side, and an input with one row gives it to each. An input that isn't done yet broadcasts nothing.
+/// Cuts of a zip lie side by side, and an input with one row gives it to each. An input that isn't complete yet broadcasts nothing.
 pub fn zips_cut_side_by_side()
     ensures side_by_side { (F : Functions) → HoldsZip F (zip_world port.Done both_cuts) 2 a_zip false }
     ensures not_overlapping { (F : Functions) → ¬ HoldsZip F (zip_world port.Done overlapping) 2 a_zip false }
-    ensures not_before_it_is_done { (F : Functions) → ¬ HoldsZip F (zip_world port.Ready both_cuts) 2 a_zip false }
+    ensures not_before_it_is_complete { (F : Functions) → ¬ HoldsZip F (zip_world port.Ready both_cuts) 2 a_zip false }
     ensures single_row { rows_in_cut false 2 3 (single_input port.Done) ≡ row 7 ∷ [] }
     ensures not_with_extension { rows_in_cut true 2 3 (single_input port.Done) ≡ [] }
     ensures own_rows { rows_in_cut false 2 3 long_input ≡ row 3 ∷ [] }

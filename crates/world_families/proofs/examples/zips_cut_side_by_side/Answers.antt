@@ -1,5 +1,5 @@
 use Rattle.std.proofs.Common.{refl}
-use Rattle.world_families.proofs.ZipExamples.{not_before_it_is_done, not_overlapping, side_by_side}
+use Rattle.world_families.proofs.ZipExamples.{not_before_it_is_complete, not_overlapping, side_by_side}
 use Rattle.world_families.proofs.examples.zips_cut_side_by_side.Goals as goal
 
 pub returns-clause-side_by_side : goal.returns-clause-side_by_side
@@ -8,5 +8,5 @@ returns-clause-side_by_side c = λ F. side_by_side F
 pub returns-clause-not_overlapping : goal.returns-clause-not_overlapping
 returns-clause-not_overlapping c = λ F h. not_overlapping F h
 
-pub returns-clause-not_before_it_is_done : goal.returns-clause-not_before_it_is_done
-returns-clause-not_before_it_is_done c = λ F h. not_before_it_is_done F h
+pub returns-clause-not_before_it_is_complete : goal.returns-clause-not_before_it_is_complete
+returns-clause-not_before_it_is_complete c = λ F h. not_before_it_is_complete F h
