@@ -21,3 +21,6 @@ pub mod SourceKeeps
 pub mod SourceOpens
 pub mod MadeTables
 pub mod MadeLaw
+pub mod ZipRows
+pub mod ZipLaw
+pub mod ZipJustified

@@ -25,11 +25,11 @@ use Rattle.world_families.specs.Holds.{Holds, HoldsOfKind}
 use Rattle.world_families.specs.Unions.{HoldsUnion, morsels_read}
 use Rattle.world_families.specs.Work.{Answers, Enters, IsComplete, Leaves, Work}
 
-abbrev Slots : Type 0
+abbrev pub Slots : Type 0
 Slots = List (Option (List Row))
 
 -- every place is filled
-abbrev Filled : Slots → Type 0
+abbrev pub Filled : Slots → Type 0
 Filled xs = (k : ℕ) → k < length xs → (rs : List Row) × (slice_get xs k ≡ Some (Some rs))
 
 later_filled : (x : Option (List Row)) (xs : Slots) → Filled (x ∷ xs) → Filled xs
@@ -39,13 +39,13 @@ first_filled : (x : Option (List Row)) (xs : Slots) → Filled (x ∷ xs) → (r
 first_filled x xs f = let r = f 0 (omega arith) in (r.0, let e : Some x ≡ Some (Some r.0) = r.1 in let q : x ≡ Some r.0 = cc in q)
 
 -- behind filled places rows go on
-rows_append : (xs ys : Slots) → Filled xs → rows_in_order (xs ++ ys) ≡ rows_in_order xs ++ rows_in_order ys
+pub rows_append : (xs ys : Slots) → Filled xs → rows_in_order (xs ++ ys) ≡ rows_in_order xs ++ rows_in_order ys
 rows_append [] ys f = refl
 rows_append (None ∷ xs) ys f = absurd (let r = first_filled None xs f in nothing_is r.0 r.1)
 rows_append (Some rs ∷ xs) ys f = ap (λ z. rs ++ z) (rows_append xs ys (later_filled (Some rs) xs f)) ∙ sym (append_assoc rs (rows_in_order xs) (rows_in_order ys))
 
 -- a front of the places has a front of the rows
-rows_front : (k : ℕ) (xs : Slots) → Filled (take k xs) → (rest : List Row) × (rows_in_order (take k xs) ++ rest ≡ rows_in_order xs)
+pub rows_front : (k : ℕ) (xs : Slots) → Filled (take k xs) → (rest : List Row) × (rows_in_order (take k xs) ++ rest ≡ rows_in_order xs)
 rows_front zero xs f = (rows_in_order xs, refl)
 rows_front (suc k) [] f = ([], refl)
 rows_front (suc k) (None ∷ xs) f = absurd (let r = first_filled None (take k xs) f in nothing_is r.0 r.1)
@@ -79,17 +79,17 @@ among_all (Some rs ∷ xs) (m ∷ ms) h f e =
 
 -- THE INPUTS
 -- what was read of a pipe came
-abbrev Came : Pipe → Type 0
+abbrev pub Came : Pipe → Type 0
 Came q = Filled (take q.next q.got)
 
 -- and a complete one was read to its end
 abbrev InTurn : List Pipe → Type 0
 InTurn qs = (i j : ℕ) (q r : Pipe) → i < j → slice_get qs i ≡ Some q → slice_get qs j ≡ Some r → 0 < r.next → IsComplete q
 
-abbrev EachOf : (Pipe → Type 0) → List Pipe → Type 0
+abbrev pub EachOf : (Pipe → Type 0) → List Pipe → Type 0
 EachOf P qs = (i : ℕ) (q : Pipe) → slice_get qs i ≡ Some q → P q
 
-abbrev ReadOut : Pipe → Type 0
+abbrev pub ReadOut : Pipe → Type 0
 ReadOut q = IsComplete q → q.next ≡ length q.got
 
 some_read : (qs : List Pipe) → ((j : ℕ) × (r : Pipe) × (slice_get qs j ≡ Some r) × (0 < r.next)) ⊎ (morsels_read qs ≡ [])
@@ -102,7 +102,7 @@ some_read (q ∷ qs) = by q.next refl (some_read qs)
     by (suc k) e rest = inl (0, q, refl, omega arith)
 
 -- a complete pipe that was read to its end has all its morsels read
-read_all : (q : Pipe) → ReadOut q → IsComplete q → take q.next q.got ≡ q.got
+pub read_all : (q : Pipe) → ReadOut q → IsComplete q → take q.next q.got ≡ q.got
 read_all q out c = let e = out c in take_all q.next q.got (omega arith)
 
 union_whole : (T : Table) (Ts : List Table) → T.broken ≡ [] → ((union_rows (T ∷ Ts)).rows ≡ T.rows ++ (union_rows Ts).rows) × ((union_rows (T ∷ Ts)).broken ≡ (union_rows Ts).broken)
@@ -111,13 +111,13 @@ union_whole T Ts e = (rw e refl, rw e refl)
 union_broken : (T : Table) (Ts : List Table) (c : Cause) (cs : List Cause) → T.broken ≡ c ∷ cs → (union_rows (T ∷ Ts)).rows ≡ T.rows
 union_broken T Ts c cs e = rw e refl
 
-abbrev IsFront : List Row → List Row → Type 0
+abbrev pub IsFront : List Row → List Row → Type 0
 IsFront a b = (rest : List Row) × (a ++ rest ≡ b)
 
 front_longer : (a b c : List Row) → IsFront a b → IsFront a (b ++ c)
 front_longer a b c (rest, e) = (rest ++ c, sym (append_assoc a rest c) ∙ ap (λ z. z ++ c) e)
 
-front_through : (a b c : List Row) → IsFront a b → IsFront b c → IsFront a c
+pub front_through : (a b c : List Row) → IsFront a b → IsFront b c → IsFront a c
 front_through a b c (r, e) (s, g) = (r ++ s, sym (append_assoc a r s) ∙ ap (λ z. z ++ s) e ∙ g)
 
 front_behind : (a b c : List Row) → IsFront b c → IsFront (a ++ b) (a ++ c)
@@ -164,25 +164,29 @@ read_whole (q ∷ qs) (T ∷ Ts) came out all m =
     let here : rows_in_order (take q.next q.got) ≡ T.rows = ap rows_in_order (read_all q (out 0 q refl) (all 0 q refl)) ∙ h.0 in
     (rows_append (take q.next q.got) (morsels_read qs) (came 0 q refl) ∙ ap (λ z. z ++ rows_in_order (morsels_read qs)) here ∙ ap (λ z. T.rows ++ z) rest.0 ∙ sym u.0, u.1 ∙ rest.1)
 
+take_at : (xs : Slots) (m k : ℕ) → k < m → slice_get (take m xs) k ≡ slice_get xs k
+take_at xs zero k less = absurd (omega arith)
+take_at [] (suc m) k less = refl
+take_at (x ∷ xs) (suc m) zero less = refl
+take_at (x ∷ xs) (suc m) (suc k) less = take_at xs m k (omega arith)
+
+-- what a node read of an input had come
+pub read_came : (F : Functions) (w : World) (n : ℕ) → Known F w → (i : ℕ) (q : Pipe) → slice_get (pipes_in w n) i ≡ Some q → Came q
+read_came F w n known i q e k less =
+    let at = enters F w known.facts n i q e in
+    let facts = known.facts.pipes q at.0.0 in
+    let long = length-take q.next q.got in
+    let short : k < q.next = (let all = facts.taken in grind (arith, less, long, all)) in
+    let r = facts.came k short in
+    (r.0, take_at q.got q.next k short ∙ r.1)
+
 module _ (F : Functions) (w : World) (n : ℕ) (node : Node) (known : Known F w) (there : slice_get w.nodes n ≡ Some node) (in_shape : slice_get (shape_of w) n ≡ Some node.node) (is_one : node.node.kind ≡ ordered_union) (h : HoldsUnion F w n node)
     (read : (q : Pipe) → Enters w n q → IsComplete q → q.next ≡ length q.got) where
   abbrev qs : List Pipe
   qs = pipes_in w n
 
   came : EachOf Came qs
-  came i q e k less =
-      let at = enters F w known.facts n i q e in
-      let facts = known.facts.pipes q at.0.0 in
-      let long = length-take q.next q.got in
-      let short : k < q.next = (let all = facts.taken in grind (arith, less, long, all)) in
-      let r = facts.came k short in
-      (r.0, take_at q.got q.next k short ∙ r.1)
-    where
-      take_at : (xs : Slots) (m k : ℕ) → k < m → slice_get (take m xs) k ≡ slice_get xs k
-      take_at xs zero k less = absurd (omega arith)
-      take_at [] (suc m) k less = refl
-      take_at (x ∷ xs) (suc m) zero less = refl
-      take_at (x ∷ xs) (suc m) (suc k) less = take_at xs m k (omega arith)
+  came i q e = read_came F w n known i q e
 
   read_out : EachOf ReadOut qs
   read_out i q e c = read q (enters F w known.facts n i q e).0 c

@@ -1,8 +1,8 @@
 // What each family keeps holds at the opening, and gives the first part of its law, as theorems of functions that do nothing.
-ghost use Rattle.std.specs.Prelude.{◌≡◌, ℕ, IsFalse, IsTrue, List, Some, slice_get};
+ghost use Rattle.std.specs.Prelude.{◌≡◌, ℕ, Bool, IsFalse, IsTrue, List, Some, slice_get};
 ghost use Rattle.ps_frame.specs.Functions.{Functions, IsLawful};
 ghost use Rattle.ps_frame.specs.Tables.{Frame};
-ghost use Rattle.ps_meaning.specs.Shape.{PhysicalNode, Shape, in_memory_source, independent_select, ordered_union, reduce};
+ghost use Rattle.ps_meaning.specs.Shape.{PhysicalNode, Shape, in_memory_source, independent_select, ordered_union, reduce, zip_node};
 ghost use Rattle.ps_meaning.specs.Sound.{input_schemas};
 ghost use Rattle.ps_meaning.specs.Steps.{Named};
 ghost use Rattle.ps_options.specs.declared.options.Options.{Options};
@@ -40,6 +40,11 @@ pub fn reduces_are_justified()
 /// What a map, an in-memory join or a negative slice has sent is a front of a table that it may give over all that came, and nothing before that.
 pub fn tables_are_justified()
     ensures { (F : Functions) (w : World) (n : ℕ) (p : PhysicalNode) → IsLawful F → Known F w → slice_get (shape_of w) n ≡ Some p → IsTrue (makes_table p.kind) → Holds F w n → Justified F p (input_schemas (shape_of w) p) (sent_to (sent_at w) p) (sent_at w n) }
+{}
+
+/// What a zip has sent is a front of the zip of its inputs, cut by cut.
+pub fn zips_are_justified()
+    ensures { (F : Functions) (w : World) (n : ℕ) (p : PhysicalNode) (extend : Bool) → Known F w → slice_get (shape_of w) n ≡ Some p → p.kind ≡ zip_node extend → Holds F w n → Justified F p (input_schemas (shape_of w) p) (sent_to (sent_at w) p) (sent_at w n) }
 {}
 
 /// Every step keeps it of a source, and so do updates and fills between phases.
