@@ -1,10 +1,9 @@
 -- The opening of a shape: pipes that got nothing, and nodes with nothing behind them.
 use Rattle.std.proofs.Common.{◌≡◌, ℕ, zero, suc, ◌<◌, ◌+◌, ◌⊎◌, List, [], ◌∷◌, ◌++◌, length, take, Some, None, Bool, true, false, refl, sym, ap, subst, ◌∙◌, inl, inr, arith}
-use Rattle.std.specs.Prelude.{Contains, IsFalse, IsTrue, get_or, map, nat_eq, nat_lt, replicate, slice_get, ◌||◌}
+use Rattle.std.specs.Prelude.{Contains, IsFalse, IsTrue, get_or, map, nat_eq, nat_lt, replicate, slice_get}
 use Rattle.std.specs.List.{filter as kept}
 use Rattle.std.proofs.lemmas.List.Elements.{Contains-append_cases}
 use Rattle.ps_frame.specs.Functions.{Functions}
-use Rattle.ps_frame.specs.Sorting.{in_order}
 use Rattle.ps_frame.specs.Tables.{Row}
 use Rattle.ps_meaning.specs.Shape.{PhysicalKind, PhysicalNode, Shape, equi_join, filter_node, group_by_node, in_memory_join, in_memory_map, in_memory_sink, in_memory_source, independent_select, multiplexer, negative_slice, ordered_union, reduce, select_node, simple_projection, stream_map, streaming_slice, with_row_index, zip_node}
 use Rattle.ps_meaning.specs.Steps.{JoinStep}

@@ -1,13 +1,13 @@
 -- What is known of a complete output: each of its places was filled.
 use Rattle.std.proofs.Common.{◌≡◌, ℕ, ◌<◌, ◌≤◌, ◌-◌, Bool, true, false, length, Some, refl, sym, ap, ◌∙◌, List, arith}
-use Rattle.std.specs.Prelude.{Contains, IsTrue, nat_eq, not, slice_get, ◌&&◌, ◌||◌}
+use Rattle.std.specs.Prelude.{Contains, nat_eq, not, slice_get, ◌&&◌, ◌||◌}
 use Rattle.ps_frame.specs.Functions.{Functions}
 use Rattle.ps_frame.specs.Tables.{Row}
 use Rattle.ps_ports.specs.Ports.{is_done, is_ready}
 use Rattle.ps_ports.specs.declared.port_state.PortState.{PortState}
 use Rattle.ps_ports.specs.declared.port_state.PortState.TheVariants as port
 use Rattle.ps_world.specs.Facts.{PipeFacts}
-use Rattle.ps_world.specs.World.{Pipe, World, is_bounded, is_drained, multiplexes}
+use Rattle.ps_world.specs.World.{Pipe, World, multiplexes}
 use Rattle.world_facts.proofs.CutOff.{both_true}
 use Rattle.world_laws.proofs.PassingPorts.{same_number}
 use Rattle.world_claims.specs.Numbering.{Known}

@@ -1,6 +1,6 @@
 -- The cuts of rows, put in order again: a front of the rows, and all of them where none is left.
-use Rattle.std.proofs.Common.{◌≡◌, ℕ, suc, ◌<◌, ◌≤◌, ◌+◌, ◌*◌, List, [], ◌∷◌, ◌++◌, Option, Some, None, true, drop, length, refl, sym, ap, subst, ◌∙◌, add-zero, append_assoc, append-nil, arith}
-use Rattle.std.specs.Prelude.{IsTrue, nat_le, nat_lt, slice_get, ◌&&◌}
+use Rattle.std.proofs.Common.{◌≡◌, ℕ, suc, ◌<◌, ◌≤◌, ◌+◌, ◌*◌, List, [], ◌∷◌, ◌++◌, Option, Some, None, true, drop, length, refl, sym, ap, ◌∙◌, add-zero, append_assoc, append-nil, arith}
+use Rattle.std.specs.Prelude.{IsTrue, nat_le, nat_lt, slice_get}
 use Rattle.std.proofs.Math.ListN.{drop_of_length-le}
 use Rattle.std.proofs.Math.Nat.{suc-mul, zero-mul}
 use Rattle.std.proofs.lemmas.Bool.Decides.{nat_tests}

@@ -1,7 +1,7 @@
 -- What came to a node, input by input, is what the pipes to it have sent.
 use Rattle.std.proofs.Common.{◌≡◌, ℕ, zero, suc, ◌<◌, ◌≤◌, ◌+◌, ◌⊎◌, Bool, true, false, List, [], ◌∷◌, length, Option, Some, None, refl, sym, ap, subst, ◌∙◌, inl, inr, arith}
 use Rattle.std.specs.Prelude.{Contains, map, nat_eq, nat_lt, option_map, slice_get, ◌&&◌}
-use Rattle.std.specs.List.{filter as kept, find}
+use Rattle.std.specs.List.{filter as kept}
 use Rattle.std.proofs.lemmas.List.Elements.{Contains-append_cases}
 use Rattle.std.proofs.lemmas.Option.{slice_get-map, slice_get_within}
 use Rattle.ps_frame.specs.Functions.{Functions}
@@ -17,7 +17,7 @@ use Rattle.world_facts.proofs.CutOff.{both_true}
 use Rattle.world_facts.proofs.HandedIn.{contains_of}
 use Rattle.world_facts.proofs.Placing.{has_readers, in_place, inputs_given, map_length}
 use Rattle.world_facts.proofs.Wired.{input_at, port_place}
-use Rattle.world_laws.proofs.Agree.{InPlace, from_map}
+use Rattle.world_laws.proofs.Agree.{from_map}
 use Rattle.world_laws.proofs.InOrder.{contains_cases, contains_map, none_in_nil}
 use Rattle.world_laws.proofs.PassingPorts.{ordered, same_number, was_kept}
 use Rattle.world_families.proofs.Members.{nothing_is}
@@ -119,15 +119,20 @@ module _ (F : Functions) (w : World) (f : Facts F w) where
       omega (arith, at, same)) in
       sym (ap (slice_get p.inputs) place) ∙ sym (ap (λ (y : PhysicalNode). slice_get y.inputs s.input.place) node) ∙ s.input.source ∙ (λ i. Some ((x.2 i).sender, (x.2 i).port))
 
+  -- what a pipe leaves is no sink
+  pub is_no_sink : (q : Pipe) → Contains w.pipes q → (node : Node) → slice_get w.nodes q.wire.sender ≡ Some node → is_sink node.node.kind ≡ false
+  is_no_sink q c node at =
+      let there = contains_map (λ (p : Pipe). p.wire) q w.pipes c in
+      let some = slice_get_within (wires_out q.wire.sender (wires_of w)) q.wire.port q.wire (port_place F w f q.wire there) in
+      let long = map_length (λ (p : Wire). p.receive_state) (wires_out q.wire.sender (wires_of w)) in
+      not_sink node.node.kind (length (map (λ (p : Wire). p.receive_state) (wires_out q.wire.sender (wires_of w)))) (has_readers F w f q.wire.sender node at) (omega (arith, some, long))
+
   -- what a port of a node has sent is what its pipe has
   pub sent_in : (q : Pipe) → Contains w.pipes q → sent_at w q.wire.sender q.wire.port ≡ sent_by q
   sent_in q c =
       let there = contains_map (λ (p : Pipe). p.wire) q w.pipes c in
       let sender = (in_place F w f).sender q.wire there in
-      let some = slice_get_within (wires_out q.wire.sender (wires_of w)) q.wire.port q.wire (port_place F w f q.wire there) in
-      let long = map_length (λ (p : Wire). p.receive_state) (wires_out q.wire.sender (wires_of w)) in
-      let gives = not_sink sender.0.node.kind (length (map (λ (p : Wire). p.receive_state) (wires_out q.wire.sender (wires_of w)))) (has_readers F w f q.wire.sender sender.0 sender.1) (omega (arith, some, long)) in
-      sent_is w q.wire.sender q.wire.port sender.0 sender.1 gives ∙ by (of_port w q.wire.sender q.wire.port) refl
+      sent_is w q.wire.sender q.wire.port sender.0 sender.1 (is_no_sink q c sender.0 sender.1) ∙ by (of_port w q.wire.sender q.wire.port) refl
     where
       by : (o : Option Pipe) → of_port w q.wire.sender q.wire.port ≡ o → sent_by_some o ≡ sent_by q
       by None none =

@@ -7,7 +7,7 @@ use Rattle.ps_frame.specs.Tables.{Row}
 use Rattle.ps_meaning.specs.Shape.{negative_slice}
 use Rattle.ps_ports.specs.declared.port_state.PortState.TheVariants as port
 use Rattle.ps_turns.specs.Ends.{HoldsEnd}
-use Rattle.ps_turns.specs.Keys.{IsSplit, distinct_keys}
+use Rattle.ps_turns.specs.Keys.{IsSplit}
 use Rattle.ps_turns.specs.Tables.{whole_table}
 use Rattle.ps_turns.specs.Tasks.{Piece}
 use Rattle.ps_world.specs.Facts.{keeps_one}

@@ -24,3 +24,4 @@ pub mod MadeLaw
 pub mod ZipRows
 pub mod ZipLaw
 pub mod ZipJustified
+pub mod FrontsLaw

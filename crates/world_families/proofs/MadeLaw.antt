@@ -1,12 +1,12 @@
 -- The first part of the law of maps, in-memory joins and negative slices.
-use Rattle.std.proofs.Common.{◌≡◌, ℕ, zero, List, [], ◌∷◌, ◌++◌, Option, Some, None, Bool, true, false, refl, sym, ap, subst, ◌∙◌, inl, inr, ◌⊎◌}
+use Rattle.std.proofs.Common.{◌≡◌, ℕ, List, [], ◌∷◌, ◌++◌, Option, Some, None, true, false, refl, sym, ap, subst, ◌∙◌, inl, inr, ◌⊎◌}
 use Rattle.std.specs.Prelude.{IsTrue, map, slice_get}
 use Rattle.std.specs.List.{AllZip}
 use Rattle.ps_frame.specs.Functions.{Functions, IsLawful}
 use Rattle.ps_frame.specs.Tables.{Row, Table}
 use Rattle.ps_meaning.specs.Cases.{schemas_of}
 use Rattle.ps_meaning.specs.Shape.{PhysicalCase, PhysicalKind, PhysicalNode, in_memory_join, in_memory_map, negative_slice}
-use Rattle.ps_meaning.specs.Sound.{HasFitParameters, input_schemas}
+use Rattle.ps_meaning.specs.Sound.{input_schemas}
 use Rattle.ps_options.specs.declared.options.Options.{Options}
 use Rattle.ps_turns.specs.Cuts.{is_exhausted}
 use Rattle.ps_turns.specs.Progress.{Progress, is_multiplexer, makes_table}
@@ -24,7 +24,7 @@ use Rattle.world_families.proofs.SourceLaw.{cuts_extend}
 use Rattle.world_families.specs.Holds.{Holds, HoldsOfKind}
 use Rattle.world_families.specs.Keepers.{HoldsMade}
 use Rattle.world_families.specs.Sources.{HasGivenAll, KeepsNone, cut_work}
-use Rattle.world_families.specs.Work.{Gives, IsComplete, Leaves, Work, work_of}
+use Rattle.world_families.specs.Work.{Gives, IsComplete, Leaves, work_of}
 
 -- what is so of these kinds
 record Maker (kind : PhysicalKind) : Type 0 where

@@ -1,18 +1,18 @@
 -- Tables of what makes a table of whole inputs: there is one over any, and each has the node's schema.
-use Rattle.std.proofs.Common.{◌≡◌, Bool, true, false, List, [], Some, refl, ap, ◌∙◌, inl}
+use Rattle.std.proofs.Common.{◌≡◌, Bool, true, false, List, [], refl, ap, ◌∙◌, inl}
 use Rattle.std.specs.Prelude.{IsTrue, unwrap_or}
 use Rattle.std.proofs.lemmas.List.Sorted.{IsPermutation-refl}
 use Rattle.ps_frame.specs.Functions.{Functions, IsLawful}
-use Rattle.ps_frame.specs.Tables.{Fields, Row, Table}
+use Rattle.ps_frame.specs.Tables.{Fields, Table}
 use Rattle.ps_meaning.proofs.SchemaLaw.{before-schema, cut_by-schema}
 use Rattle.ps_meaning.specs.Cases.{Gives, cut_by, first_table, keyed, schemas_of}
 use Rattle.ps_meaning.specs.Distinct.{kept_rows, key_places}
 use Rattle.ps_meaning.specs.Groups.{groups}
 use Rattle.ps_meaning.specs.Orders.{IsOrder}
 use Rattle.ps_meaning.specs.Schemas.{schema_or_empty}
-use Rattle.ps_meaning.specs.Shape.{PhysicalCase, PhysicalKind, PhysicalNode, below_zero, in_memory_join, in_memory_map, narrowed, negative_slice}
+use Rattle.ps_meaning.specs.Shape.{PhysicalCase, PhysicalKind, PhysicalNode, below_zero, in_memory_join, in_memory_map, negative_slice}
 use Rattle.ps_meaning.specs.Sound.{HasFitParameters, HasSchema, IsMapStep}
-use Rattle.ps_meaning.specs.Steps.{Step, distinct, exprs_of, group_by, join, select, slice, sort, step_cut, user}
+use Rattle.ps_meaning.specs.Steps.{Step, distinct, exprs_of, group_by, select, slice, sort, step_cut, user}
 use Rattle.ps_turns.specs.Progress.{makes_table}
 
 own_order : {X : Type 0} (b : Bool) (xs : List X) → IsOrder b xs xs

@@ -1,5 +1,5 @@
 -- What gives one table under the number 0, and nothing else.
-use Rattle.std.proofs.Common.{◌≡◌, ℕ, zero, suc, List, [], ◌∷◌, ◌++◌, Option, Some, None, refl, sym, ap, ◌∙◌, append-nil, arith}
+use Rattle.std.proofs.Common.{◌≡◌, ℕ, List, [], ◌∷◌, ◌++◌, Option, Some, None, refl, sym, ap, ◌∙◌, append-nil, arith}
 use Rattle.std.specs.Prelude.{slice_get}
 use Rattle.ps_frame.specs.Tables.{IsWhole, Row, Table}
 use Rattle.ps_world.specs.Laws.{Extends, sent_by}

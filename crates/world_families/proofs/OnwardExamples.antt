@@ -1,8 +1,7 @@
 -- A row index that took two morsels, and a multiplexer with two ports.
-use Rattle.std.proofs.Common.{◌≡◌, ℕ, ◌+◌, List, [], ◌∷◌, ◌++◌, Some, None, true, false, length, take, refl, sym, ap, arith}
-use Rattle.std.specs.Prelude.{Contains, IsFalse, Option, slice_get, ◌||◌}
+use Rattle.std.proofs.Common.{◌≡◌, ℕ, ◌+◌, List, [], ◌∷◌, Some, None, true, false, length, take, refl, sym, ap, arith}
+use Rattle.std.specs.Prelude.{Contains, IsFalse, ◌||◌}
 use Rattle.ps_frame.specs.Functions.{Functions}
-use Rattle.ps_frame.specs.Tables.{Row}
 use Rattle.ps_meaning.specs.Shape.{PhysicalKind, with_row_index}
 use Rattle.ps_ports.specs.Ports.{is_done}
 use Rattle.ps_ports.specs.declared.port_state.PortState.TheVariants as port
@@ -14,7 +13,7 @@ use Rattle.ps_world.specs.World.{Pipe, World, rows_in_order}
 use Rattle.world_families.proofs.Members.{each_of, first_number, smaller}
 use Rattle.world_families.specs.Examples.{a_port, a_schema, an_index, came, index_world, indexing, pipe, ports_world, row, slots}
 use Rattle.world_families.specs.Onward.{HoldsPassing, HoldsPorts, IsMorselWork}
-use Rattle.world_families.specs.Work.{PipesHold, Work, rows_read, work_of}
+use Rattle.world_families.specs.Work.{PipesHold, Work, rows_read}
 
 -- A ROW INDEX
 abbrev both : List Piece

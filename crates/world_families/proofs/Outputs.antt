@@ -1,6 +1,6 @@
 -- What a step does to the pipes that leave a node: each keeps its wire, nothing that came is lost, and what comes new is a result of a piece that is out.
-use Rattle.std.proofs.Common.{◌≡◌, ℕ, zero, suc, ◌⊎◌, Bool, true, false, cond, List, [], ◌∷◌, ◌++◌, length, Option, Some, None, refl, sym, ap, subst, ◌∙◌, inl, inr, arith}
-use Rattle.std.specs.Prelude.{Contains, IsTrue, map, nat_eq, not, slice_get, slice_set, ◌&&◌, ◌||◌}
+use Rattle.std.proofs.Common.{◌≡◌, ℕ, zero, suc, ◌⊎◌, Bool, true, false, cond, List, [], ◌∷◌, ◌++◌, length, Some, None, refl, sym, ap, subst, ◌∙◌, inl, inr}
+use Rattle.std.specs.Prelude.{Contains, nat_eq, slice_get, slice_set, ◌&&◌}
 use Rattle.ps_frame.specs.Functions.{Functions}
 use Rattle.ps_frame.specs.Tables.{Row, Table}
 use Rattle.ps_ports.specs.Ports.{is_done}
@@ -12,8 +12,7 @@ use Rattle.ps_world.specs.Pipes.{drop_at, drop_if, dropped_pipe, drops_from, tak
 use Rattle.ps_world.specs.World.{Pipe, World, is_cut_off}
 use Rattle.world_facts.proofs.Slots.{at_cases, at_end}
 use Rattle.world_laws.proofs.Agree.{from_map}
-use Rattle.world_families.proofs.Complete.{Whole, complete, whole}
-use Rattle.world_families.proofs.Members.{nothing_is}
+use Rattle.world_families.proofs.Complete.{complete, whole}
 use Rattle.world_families.specs.Work.{Answers, Gives, IsComplete, Leaves, Work, work_of}
 
 -- a pipe after a step beside the one before; N is what may come

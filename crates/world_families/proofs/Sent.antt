@@ -1,12 +1,12 @@
 -- What a node that has one output or none sends on its ports, as its pipe has it.
 use Rattle.std.proofs.Common.{◌≡◌, ℕ, ◌⊎◌, Bool, true, false, List, [], ◌∷◌, Option, Some, None, refl, sym, ap, subst, ◌∙◌, inl, inr, arith}
-use Rattle.std.specs.Prelude.{Contains, cond, map, nat_eq, option_map, slice_get, ◌&&◌}
+use Rattle.std.specs.Prelude.{Contains, cond, nat_eq, option_map, slice_get, ◌&&◌}
 use Rattle.std.specs.List.{find}
 use Rattle.std.proofs.lemmas.Bool.Decides.{nat_tests}
 use Rattle.std.proofs.lemmas.Option.{slice_get-map}
 use Rattle.ps_frame.specs.Tables.{Table}
 use Rattle.ps_meaning.specs.Shape.{PhysicalKind, PhysicalNode, in_memory_sink}
-use Rattle.ps_world.specs.Laws.{Extends, Sent, nothing_sent, sent_at, sent_by, sent_by_some, sent_of_kind}
+use Rattle.ps_world.specs.Laws.{Extends, nothing_sent, sent_at, sent_by, sent_by_some, sent_of_kind}
 use Rattle.ps_world.specs.World.{Node, Pipe, World, shape_of}
 use Rattle.world_facts.proofs.CutOff.{both_true}
 use Rattle.world_laws.proofs.InOrder.{contains_cases, contains_first, contains_later, none_in_nil}
@@ -60,6 +60,11 @@ is_sink _ = false
 abbrev pub of_port : World → ℕ → ℕ → Option Pipe
 of_port w n k = find (λ (p : Pipe). nat_eq p.wire.sender n && nat_eq p.wire.port k) w.pipes
 
+pub leaves_port : (w : World) (n k : ℕ) (p : Pipe) → of_port w n k ≡ Some p → Leaves w n p
+leaves_port w n k p here =
+    let f = found (λ (x : Pipe). nat_eq x.wire.sender n && nat_eq x.wire.port k) w.pipes p here in
+    (f.0, same_number p.wire.sender n (both_true (nat_eq p.wire.sender n) (nat_eq p.wire.port k) f.1).0)
+
 module _ (w : World) (n k : ℕ) (node : Node) where
   sent_by_kind : (kind : PhysicalKind) → is_sink kind ≡ false → sent_of_kind w n k (Some (record node { node = record node.node { kind = kind } })) ≡ sent_by_some (of_port w n k)
   sent_by_kind in_memory_sink e = absurd (let never : true ≡ false = e in cc)
@@ -77,10 +82,7 @@ each_port w n node T there e each k = subst (λ s. Extends s T) (sym (sent_is w 
   where
     by : (o : Option Pipe) → of_port w n k ≡ o → Extends (sent_by_some o) T
     by None none = extends_nothing T
-    by (Some p) here =
-        let f = found (λ (x : Pipe). nat_eq x.wire.sender n && nat_eq x.wire.port k) w.pipes p here in
-        let b = both_true (nat_eq p.wire.sender n) (nat_eq p.wire.port k) f.1 in
-        each p (f.0, same_number p.wire.sender n b.0)
+    by (Some p) here = each p (leaves_port w n k p here)
 
 -- where outputs are one, a table that serves that one serves each port
 pub one_table : (w : World) (n : ℕ) (node : Node) (C : Table → Type 0) → slice_get w.nodes n ≡ Some node → is_sink node.node.kind ≡ false → ((p q : Pipe) → Leaves w n p → Leaves w n q → p ≡ q)

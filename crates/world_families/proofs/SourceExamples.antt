@@ -1,5 +1,5 @@
 -- A source of three rows with its pieces and answers.
-use Rattle.std.proofs.Common.{◌≡◌, ℕ, zero, suc, List, [], ◌∷◌, Option, Some, None, true, false, refl, ap, subst, inl, inr, arith, ◌⊎◌}
+use Rattle.std.proofs.Common.{◌≡◌, ℕ, zero, suc, List, [], ◌∷◌, Some, None, true, false, refl, ap, subst, inl, inr, arith, ◌⊎◌}
 use Rattle.std.specs.Prelude.{IsTrue, slice_get}
 use Rattle.ps_frame.specs.Functions.{Functions}
 use Rattle.ps_frame.specs.Tables.{Row}
@@ -7,7 +7,7 @@ use Rattle.ps_ports.specs.declared.port_state.PortState.TheVariants as port
 use Rattle.ps_turns.specs.Tasks.{Piece}
 use Rattle.ps_world.specs.Laws.{sent_by}
 use Rattle.ps_world.specs.World.{Pipe}
-use Rattle.world_families.proofs.Members.{apart, each_of, first_number}
+use Rattle.world_families.proofs.Members.{apart, each_of}
 use Rattle.world_families.specs.Examples.{a_schema, a_source, came, handing, pipe, row, slots, source_world, three_rows, two_workers}
 use Rattle.world_families.specs.Sources.{HasGivenAll, HoldsSource, cut_work}
 use Rattle.world_families.specs.Work.{Answers, Work, work_of}

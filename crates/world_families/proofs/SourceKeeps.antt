@@ -1,52 +1,32 @@
 -- What a source keeps is kept by every step, and by updates and fills.
-use Rattle.std.proofs.Common.{◌≡◌, ◌≢◌, ℕ, zero, suc, ◌<◌, ◌⊎◌, Bool, true, false, cond, List, [], ◌∷◌, ◌++◌, length, Option, Some, None, refl, sym, ap, subst, ◌∙◌, inl, inr, map-id, arith}
-use Rattle.std.specs.Prelude.{Contains, IsFalse, IsTrue, get_or, map, nat_eq, nat_lt, not, option_map, slice_get, slice_set, ◌&&◌, ◌||◌}
-use Rattle.std.proofs.lemmas.Bool.{cases_eq}
+use Rattle.std.proofs.Common.{◌≡◌, ℕ, ◌⊎◌, Bool, true, false, cond, List, [], ◌∷◌, length, Some, None, refl, sym, ap, subst, ◌∙◌, inl, inr, arith}
+use Rattle.std.specs.Prelude.{Contains, IsTrue, nat_eq, nat_lt, slice_get, ◌||◌}
 use Rattle.std.proofs.lemmas.Bool.Decides.{nat_tests}
-use Rattle.std.proofs.lemmas.Option.{get_or_from_slice_get, slice_get-map}
-use Rattle.ps_frame.specs.Causes.{is_empty}
 use Rattle.ps_frame.specs.Functions.{Functions}
 use Rattle.ps_frame.specs.Tables.{Fields, Row}
 use Rattle.ps_meaning.specs.Shape.{PhysicalKind, PhysicalNode, in_memory_source, independent_select}
 use Rattle.ps_meaning.specs.Sound.{HasInputs}
 use Rattle.ps_options.specs.declared.options.Options.{Options}
-use Rattle.ps_ports.specs.Ports.{Sides, first_port, is_done, kept_done, kept_state}
-use Rattle.ps_ports.specs.Wires.{Wire, wires_out}
-use Rattle.ps_ports.specs.declared.port_state.PortState.{PortState}
-use Rattle.ps_ports.specs.declared.port_state.PortState.TheVariants as port
+use Rattle.ps_ports.specs.Ports.{is_done}
+use Rattle.ps_ports.specs.Wires.{Wire}
 use Rattle.ps_turns.specs.Claims.{Claim, Next, claim_by, of_own}
 use Rattle.ps_turns.specs.Cuts.{cut_of_source}
 use Rattle.ps_turns.specs.Heads.{Head}
 use Rattle.ps_turns.specs.Progress.{Progress, is_multiplexer}
-use Rattle.ps_turns.specs.Results.{IsResult}
-use Rattle.ps_turns.specs.Tasks.{Piece, computes, good, hands_on}
-use Rattle.ps_turns.specs.Updates.{Turns, answer_by, answer_of, has_given_all}
-use Rattle.ps_world.specs.Claims.{claim_at, inputs_in_phase, next_morsel, piece_of}
+use Rattle.ps_turns.specs.Tasks.{Piece, computes, hands_on}
+use Rattle.ps_turns.specs.Updates.{has_given_all}
+use Rattle.ps_world.specs.Claims.{claim_at, inputs_in_phase, next_morsel}
 use Rattle.ps_world.specs.Facts.{Facts}
-use Rattle.ps_world.specs.Phases.{after_fault, after_open, blockers_in, intensive_at, nodes_of_phase, with_phase}
-use Rattle.ps_world.specs.Pipes.{put_progress, with_progress}
-use Rattle.ps_world.specs.Step.{Opens, Steps, breaks, settles}
-use Rattle.ps_world.specs.Updates.{FillsAt, TurnsAt, Updates, answer_at, empty_outs, given_at, no_update, one_fill, one_update, received, sent, updated, written}
-use Rattle.ps_world.specs.World.{Node, Pipe, Record, World, claimed, closed, ended, finished, handed_in, heads_of, inputs_done, opened, pulled, schemas_for, shape_of, wires_of}
-use Rattle.world_claims.proofs.Beside.{marked_from}
-use Rattle.world_claims.proofs.ReachedFacts.{known_step}
-use Rattle.world_claims.proofs.Steps.{map_map}
-use Rattle.world_claims.specs.Numbering.{Known}
-use Rattle.world_facts.proofs.UpdatedKeeps.{updates_keep_facts}
-use Rattle.world_facts.proofs.Slots.{set_here, set_other}
-use Rattle.world_facts.proofs.Wired.{port_place}
-use Rattle.world_laws.proofs.Agree.{from_map}
+use Rattle.ps_world.specs.World.{Node, Pipe, World, heads_of, inputs_done, schemas_for}
 use Rattle.world_laws.proofs.Answered.{in_shape}
-use Rattle.world_laws.proofs.InOrder.{contains_map}
 use Rattle.world_laws.proofs.PassingPorts.{same_number}
-use Rattle.world_families.proofs.Complete.{complete, whole}
 use Rattle.world_families.proofs.Inputs.{input_of}
 use Rattle.world_families.proofs.Members.{nothing_is}
 use Rattle.world_families.proofs.Outputs.{MayCome, Onto, gives_keep, was_complete}
-use Rattle.world_families.proofs.SourceSteps.{HasClaim, IsClaimed, Sends, StepOf, answer_step, claim_step, close_step, end_step, pull_step, same_node}
-use Rattle.world_families.specs.Holds.{HoldsAt, HoldsOfKind}
+use Rattle.world_families.proofs.SourceSteps.{HasClaim, IsClaimed, StepOf}
+use Rattle.world_families.specs.Holds.{HoldsOfKind}
 use Rattle.world_families.specs.Sources.{HasGivenAll, IsSource, KeepsNone, cut_work}
-use Rattle.world_families.specs.Work.{Enters, Gives, IsComplete, Leaves, PipesHold, Work, asked_by, work_of}
+use Rattle.world_families.specs.Work.{Enters, Gives, Leaves, PipesHold, Work, asked_by, work_of}
 
 -- SOURCES
 -- the work of a source for a number

@@ -1,24 +1,22 @@
 -- The first part of the law of sources.
-use Rattle.std.proofs.Common.{◌≡◌, ℕ, ◌<◌, List, [], ◌∷◌, ◌++◌, Option, Some, None, true, false, length, refl, sym, ap, subst, ◌∙◌, inl, inr, append-nil, zero-add, arith}
+use Rattle.std.proofs.Common.{◌≡◌, ℕ, ◌<◌, List, [], ◌∷◌, Some, true, false, length, refl, sym, ap, subst, ◌∙◌, inl, zero-add, arith}
 use Rattle.std.specs.Prelude.{IsTrue, nat_lt, slice_get, unwrap_or}
 use Rattle.std.proofs.lemmas.Bool.Decides.{nat_tests}
 use Rattle.ps_frame.specs.Functions.{Functions}
 use Rattle.ps_frame.specs.Tables.{Fields, Frame, IsWhole, Row, Table, no_rows, whole as whole_of}
-use Rattle.ps_meaning.specs.Cases.{GivesBeforeCut, columns_at, out_schema, table_of}
-use Rattle.ps_frame.specs.Zip.{zipped}
+use Rattle.ps_meaning.specs.Cases.{out_schema}
 use Rattle.ps_meaning.specs.Shape.{PhysicalCase, PhysicalKind, PhysicalNode, in_memory_source, independent_select}
 use Rattle.ps_meaning.specs.Sound.{HasInputs, HasSchema, IsFitNode, input_schemas}
-use Rattle.ps_meaning.specs.Steps.{Named, exprs_of, select}
+use Rattle.ps_meaning.specs.Steps.{Named, select}
 use Rattle.ps_turns.specs.Cuts.{cut_of_source, is_exhausted}
 use Rattle.ps_turns.specs.Progress.{is_multiplexer}
 use Rattle.ps_turns.specs.Tasks.{Piece, computes}
 use Rattle.ps_turns.specs.Updates.{has_given_all}
 use Rattle.ps_world.specs.Laws.{Extends, Justified, sent_at, sent_by, sent_to}
-use Rattle.ps_world.specs.World.{Node, Pipe, World, multiplexes, rows_in_order, shape_of}
+use Rattle.ps_world.specs.World.{Node, Pipe, World, multiplexes, shape_of}
 use Rattle.world_claims.specs.Numbering.{Known, counts_own}
 use Rattle.world_families.proofs.Complete.{filled, whole}
 use Rattle.world_families.proofs.Cuts.{Cuts, cuts_all, cuts_front}
-use Rattle.world_families.proofs.Members.{nothing_is, smaller}
 use Rattle.world_families.proofs.OneAnswer.{each_served}
 use Rattle.world_families.proofs.SelectSchema.{before_schema, gives_over, table_over}
 use Rattle.world_families.proofs.Sent.{each_port, is_sink, node_of, one_table}

@@ -1,6 +1,6 @@
 -- What a source keeps is kept by updates and fills, by an Open, and so by every step.
-use Rattle.std.proofs.Common.{◌≡◌, ◌≢◌, ℕ, zero, suc, ◌⊎◌, Bool, true, false, cond, List, [], ◌∷◌, ◌++◌, length, Option, Some, None, refl, sym, ap, subst, ◌∙◌, inl, inr, map-id}
-use Rattle.std.specs.Prelude.{Contains, IsFalse, IsTrue, get_or, map, nat_eq, not, option_map, slice_get, slice_set, ◌&&◌, ◌||◌}
+use Rattle.std.proofs.Common.{◌≡◌, ◌≢◌, ℕ, zero, suc, ◌⊎◌, Bool, true, false, cond, List, [], ◌∷◌, ◌++◌, length, Some, refl, sym, ap, subst, ◌∙◌, inl, inr}
+use Rattle.std.specs.Prelude.{Contains, IsFalse, get_or, map, nat_eq, not, option_map, slice_get, slice_set, ◌&&◌, ◌||◌}
 use Rattle.std.proofs.lemmas.Bool.{cases_eq}
 use Rattle.std.proofs.lemmas.Option.{slice_get-map}
 use Rattle.ps_frame.specs.Causes.{is_empty}
@@ -34,15 +34,15 @@ use Rattle.world_laws.proofs.Answered.{in_shape}
 use Rattle.world_laws.proofs.InOrder.{contains_map}
 use Rattle.world_laws.proofs.PassingPorts.{same_number}
 use Rattle.world_laws.proofs.Shapes.{step_keeps as shape_kept, updates_keep as shapes_kept}
-use Rattle.world_families.proofs.Complete.{Whole, complete, whole}
+use Rattle.world_families.proofs.Complete.{complete, whole}
 use Rattle.world_families.proofs.Members.{nothing_is}
 use Rattle.world_families.proofs.Outputs.{MayCome, Onto, gives_keep, itself}
 use Rattle.world_families.proofs.Sent.{node_of}
 use Rattle.world_families.proofs.SourceKeeps.{GivesSource, Keeps, SourceWork, given_by_sent, no_pipe, of_kind, single, step_keeps, to_kind}
 use Rattle.world_families.proofs.SourceSteps.{StepOf, answer_step, claim_step, close_step, end_step, pull_step, same_node}
-use Rattle.world_families.specs.Holds.{Holds, HoldsAt}
+use Rattle.world_families.specs.Holds.{Holds}
 use Rattle.world_families.specs.Sources.{HasGivenAll, IsSource, KeepsNone}
-use Rattle.world_families.specs.Work.{Gives, IsComplete, Leaves, PipesHold}
+use Rattle.world_families.specs.Work.{IsComplete, Leaves, PipesHold}
 
 -- WHAT AN UPDATE WRITES TO A PIPE
 abbrev written_pipe : ℕ → Sides → Pipe → Pipe

@@ -1,14 +1,14 @@
 -- A union that read a morsel of each of two inputs.
-use Rattle.std.proofs.Common.{◌≡◌, ℕ, zero, suc, ◌<◌, ◌⊎◌, List, [], ◌∷◌, Option, Some, None, true, false, refl, sym, ap, subst, ◌∙◌, inl, inr, arith}
-use Rattle.std.specs.Prelude.{Contains, IsTrue, slice_get}
+use Rattle.std.proofs.Common.{◌≡◌, ℕ, zero, suc, ◌<◌, List, [], ◌∷◌, Some, None, true, false, refl, ap, subst, inl, arith}
+use Rattle.std.specs.Prelude.{Contains, slice_get}
 use Rattle.ps_frame.specs.Functions.{Functions}
 use Rattle.ps_frame.specs.Tables.{Row}
 use Rattle.ps_ports.specs.declared.port_state.PortState.TheVariants as port
 use Rattle.ps_turns.specs.Tasks.{Piece, hands_on}
-use Rattle.ps_world.specs.World.{Pipe, pipes_in}
+use Rattle.ps_world.specs.World.{Pipe}
 use Rattle.world_families.proofs.Members.{apart, each_of}
 use Rattle.world_families.specs.Examples.{a_schema, a_union, came, pipe, row, slots, union_pipes, union_world}
-use Rattle.world_families.specs.Unions.{HoldsUnion, morsels_read}
+use Rattle.world_families.specs.Unions.{HoldsUnion}
 use Rattle.world_families.specs.Work.{AllComplete, Answers, IsComplete, Work, work_of}
 
 abbrev given : slots

@@ -1,5 +1,5 @@
 -- A zip of an input of three rows and one of a single row, in two cuts.
-use Rattle.std.proofs.Common.{◌≡◌, ℕ, zero, suc, ◌<◌, ◌≤◌, ◌-◌, ◌+◌, ◌⊎◌, List, [], ◌∷◌, Some, None, true, false, length, take, drop, min, refl, ap, subst, inl, inr, arith}
+use Rattle.std.proofs.Common.{◌≡◌, ℕ, zero, suc, ◌<◌, ◌≤◌, ◌-◌, ◌+◌, ◌⊎◌, List, [], ◌∷◌, Some, None, true, false, length, take, drop, refl, ap, subst, inl, inr, arith}
 use Rattle.std.specs.Prelude.{Contains, IsTrue, get_or, map, slice_get, ◌||◌}
 use Rattle.std.proofs.lemmas.List.{length-take}
 use Rattle.ps_frame.specs.Functions.{Functions}

@@ -1,5 +1,5 @@
 -- What a zip has sent is a front of the zip of its inputs.
-use Rattle.std.proofs.Common.{◌≡◌, ◌≢◌, ℕ, zero, suc, ◌<◌, ◌≤◌, ◌+◌, ◌-◌, ◌⊎◌, Bool, true, false, cond, List, [], ◌∷◌, ◌++◌, length, take, drop, Option, Some, None, refl, sym, ap, subst, ◌∙◌, inl, inr, add-one, add-zero, append_assoc, append-nil, arith}
+use Rattle.std.proofs.Common.{◌≡◌, ◌≢◌, ℕ, zero, suc, ◌<◌, ◌≤◌, ◌+◌, ◌-◌, ◌⊎◌, Bool, true, false, List, [], ◌∷◌, ◌++◌, length, take, drop, Option, Some, None, refl, sym, ap, subst, ◌∙◌, inl, inr, add-one, add-zero, append_assoc, append-nil, arith}
 use Rattle.std.specs.Prelude.{Contains, IsTrue, flat_map, get_or, map, nat_eq, nat_lt, not, option_map, slice_get, ◌&&◌, ◌||◌, ◌==◌, if◌then◌else◌, unwrap_or, ⊤}
 use Rattle.std.specs.List.{AllByRecursion, AllZip, filter as kept, list_any}
 use Rattle.std.proofs.Math.ListN.{drop_of_length-le}
@@ -10,7 +10,7 @@ use Rattle.ps_frame.proofs.Lists.{drop-drop}
 use Rattle.ps_frame.specs.Causes.{column_causes, is_empty, is_ended}
 use Rattle.ps_frame.specs.Functions.{Functions}
 use Rattle.ps_frame.specs.Tables.{Fields, IsWhole, Row, Table}
-use Rattle.ps_frame.specs.Zip.{Extent, below, breaks_shape, broadcasts as spreads, ends_early, extents, zipped}
+use Rattle.ps_frame.specs.Zip.{Extent, below, breaks_shape, broadcasts as spreads, extents, zipped}
 use Rattle.ps_frame.specs.declared.value.Value.TheVariants as val
 use Rattle.ps_meaning.specs.Cases.{all_columns, out_schema, schemas_of, table_of}
 use Rattle.ps_meaning.specs.Schemas.{schema_or_empty}
@@ -26,7 +26,6 @@ use Rattle.world_claims.specs.Numbering.{Known, counts_own}
 use Rattle.world_facts.proofs.Halting.{order_keeps}
 use Rattle.world_facts.proofs.HandedIn.{at_of, contains_of}
 use Rattle.world_facts.proofs.Placing.{in_place}
-use Rattle.world_laws.proofs.Agree.{InPlace}
 use Rattle.world_laws.proofs.Answered.{in_shape}
 use Rattle.world_laws.proofs.InOrder.{contains_cases, contains_first, contains_kept, contains_later, contains_map, none_in_nil}
 use Rattle.world_families.proofs.Complete.{filled, whole}
@@ -34,12 +33,12 @@ use Rattle.world_families.proofs.Inputs.{enters, input_of, inputs_long, none_pas
 use Rattle.world_families.proofs.Members.{nothing_is}
 use Rattle.world_families.proofs.Sent.{each_port, is_sink, itself, node_of}
 use Rattle.world_families.proofs.SourceLaw.{from_single}
-use Rattle.world_families.proofs.UnionLaw.{Came, IsFront, ReadOut, front_through, read_all, read_came, rows_front}
-use Rattle.world_families.proofs.ZipLaw.{Meant, Single, Spread, cut_fills, cut_reached, cut_within, equal_one, longer, one_equal, same_row_at, single_means, spread_is, spread_means, table_fills}
+use Rattle.world_families.proofs.UnionLaw.{Came, ReadOut, front_through, read_all, read_came, rows_front}
+use Rattle.world_families.proofs.ZipLaw.{Meant, Spread, cut_fills, cut_reached, cut_within, longer, same_row_at, single_means, spread_is, table_fills}
 use Rattle.world_families.proofs.ZipRows.{Binds, MayPass, at_least, at_most, each_extent, extent, fits_shape, height, loses_none, map_below, none_ends, rows_are, some_extent, unbroken, window, zip_row}
 use Rattle.world_families.specs.Holds.{Holds, HoldsOfKind}
-use Rattle.world_families.specs.Work.{Answers, Enters, IsComplete, Leaves, Work, rows_read}
-use Rattle.world_families.specs.Zips.{AllCut, HoldsZip, IsCut, ServesCut, broadcasts, rows_in_cut}
+use Rattle.world_families.specs.Work.{Answers, Enters, IsComplete, Leaves, rows_read}
+use Rattle.world_families.specs.Zips.{AllCut, HoldsZip, ServesCut, broadcasts, rows_in_cut}
 
 -- INPUTS WITH THE TABLES THAT THEY MEAN
 abbrev AllMeant : List Pipe → List Table → Type 0

@@ -1,33 +1,16 @@
 -- The first part of the law of zips.
-use Rattle.std.proofs.Common.{◌≡◌, ◌≢◌, ℕ, zero, suc, ◌<◌, ◌≤◌, ◌+◌, ◌-◌, ◌⊎◌, Bool, true, false, cond, List, [], ◌∷◌, ◌++◌, length, take, drop, Option, Some, None, min, refl, sym, ap, subst, ◌∙◌, inl, inr, add-one, append_assoc, append-nil, arith}
-use Rattle.std.specs.Prelude.{Contains, IsTrue, get_or, map, nat_eq, nat_lt, not, slice_get, ◌&&◌, ◌||◌, ◌==◌, if◌then◌else◌, unwrap_or}
-use Rattle.std.specs.List.{AllByRecursion, AllZip, filter as kept, list_any}
-use Rattle.std.proofs.Math.ListN.{drop_of_length-le}
+use Rattle.std.proofs.Common.{◌≡◌, ℕ, zero, suc, ◌<◌, ◌≤◌, ◌+◌, ◌-◌, Bool, true, false, cond, List, [], ◌∷◌, ◌++◌, length, take, drop, min, refl, sym, ap, ◌∙◌, inl, inr, arith}
+use Rattle.std.specs.Prelude.{get_or, nat_eq, not, ◌&&◌, ◌==◌, if◌then◌else◌}
 use Rattle.std.proofs.lemmas.Bool.Decides.{nat_tests}
-use Rattle.std.proofs.lemmas.List.{length-append, length-drop, length-map, length-take, take-append-drop}
-use Rattle.ps_frame.proofs.Gathers.{length-below}
-use Rattle.ps_frame.proofs.Lists.{drop-drop}
-use Rattle.ps_frame.specs.Causes.{is_empty, is_ended}
-use Rattle.ps_frame.specs.Functions.{Functions}
-use Rattle.ps_frame.specs.Tables.{Fields, IsWhole, Row, Table}
-use Rattle.ps_frame.specs.Zip.{Extent, below, broadcasts as spreads, extents, zipped}
-use Rattle.ps_frame.specs.declared.value.Value.TheVariants as val
-use Rattle.ps_meaning.specs.Cases.{all_columns, out_schema, schemas_of, table_of}
-use Rattle.ps_meaning.specs.Schemas.{schema_or_empty}
-use Rattle.ps_meaning.specs.Shape.{PhysicalCase, PhysicalKind, PhysicalNode, mild_zip, zip_node}
-use Rattle.ps_meaning.specs.Sound.{HasSchema, input_schemas, schema_at}
-use Rattle.ps_meaning.specs.Steps.{hconcat}
-use Rattle.ps_turns.specs.Progress.{is_multiplexer}
-use Rattle.ps_turns.specs.Tables.{whole_table, whole_tables}
-use Rattle.ps_turns.specs.Tasks.{computes}
-use Rattle.ps_world.specs.Laws.{Extends, Justified, sent_at, sent_by, sent_to}
-use Rattle.ps_world.specs.World.{Node, Pipe, World, pipes_in, rows_in_order, schemas_for, shape_of}
-use Rattle.world_claims.specs.Numbering.{Known, counts_own}
+use Rattle.std.proofs.lemmas.List.{length-append, length-drop, length-take}
+use Rattle.ps_frame.specs.Causes.{is_empty}
+use Rattle.ps_frame.specs.Tables.{Row, Table}
+use Rattle.ps_frame.specs.Zip.{Extent, broadcasts as spreads}
+use Rattle.ps_world.specs.Laws.{sent_by}
+use Rattle.ps_world.specs.World.{Pipe}
 use Rattle.world_facts.proofs.CutOff.{both_true}
-use Rattle.world_laws.proofs.InOrder.{contains_first, contains_later, none_in_nil, contains_cases}
-use Rattle.world_families.proofs.Members.{nothing_is}
-use Rattle.world_families.proofs.UnionLaw.{Came, IsFront, front_through, rows_front, read_came}
-use Rattle.world_families.proofs.ZipRows.{Binds, MayPass, at_least, at_most, each_extent, extent, height, map_below, place_in, row_of, rows_are, some_extent, window, zip_row}
+use Rattle.world_families.proofs.UnionLaw.{IsFront}
+use Rattle.world_families.proofs.ZipRows.{Binds, MayPass, extent}
 use Rattle.world_families.specs.Work.{IsComplete, rows_read}
 use Rattle.world_families.specs.Zips.{ServesCut, broadcasts, rows_in_cut}
 

@@ -1,12 +1,12 @@
 -- The rows of a zip of tables, one by one, and how many there are.
-use Rattle.std.proofs.Common.{◌≡◌, ◌≢◌, ℕ, zero, suc, ◌<◌, ◌≤◌, ◌+◌, ◌-◌, ◌⊎◌, Bool, true, false, cond, List, [], ◌∷◌, ◌++◌, length, take, drop, Option, Some, None, min, max, refl, sym, ap, subst, ◌∙◌, inl, inr, arith}
-use Rattle.std.specs.Prelude.{Contains, filter, filter_map, flat_map, fold, get_or, map, not, option_map, slice_get, take_while, ◌&&◌, ◌||◌, ◌==◌, if◌then◌else◌, ⊤}
+use Rattle.std.proofs.Common.{◌≡◌, ◌≢◌, ℕ, zero, suc, ◌<◌, ◌≤◌, ◌+◌, ◌⊎◌, Bool, true, false, cond, List, [], ◌∷◌, ◌++◌, length, take, drop, Some, min, max, refl, sym, ap, subst, ◌∙◌, inl, inr, arith}
+use Rattle.std.specs.Prelude.{Contains, filter, flat_map, fold, get_or, map, not, option_map, slice_get, take_while, ◌&&◌, ◌||◌, ◌==◌, if◌then◌else◌, ⊤}
 use Rattle.std.specs.List.{AllByRecursion, list_all, list_any}
 use Rattle.std.proofs.Math.Nat.{le-max_left, le-max_right, le-min, max-le}
-use Rattle.std.proofs.lemmas.List.{length-append, length-map, length-take}
+use Rattle.std.proofs.lemmas.List.{length-map, length-take}
 use Rattle.std.proofs.lemmas.List.Sums.{take_while-cons}
 use Rattle.std.proofs.lemmas.Option.{slice_get-map}
-use Rattle.ps_frame.specs.Causes.{Cause, Cell, Column, cell_causes, cell_values, is_empty, is_ended, value}
+use Rattle.ps_frame.specs.Causes.{Cell, Column, cell_causes, cell_values, is_empty, is_ended, value}
 use Rattle.ps_frame.specs.Tables.{Row, Table, column_at, columns_of, values_at}
 use Rattle.ps_frame.specs.Zip.{Extent, all_same, below, breaks_shape, broadcasts, cell_in_row, ended_lengths, ends_early, extent_of, extents, greatest, is_faulty_row, least_or, lengths_where, open_lengths, outgrows, row_causes, rows_before_fault, unseen_causes, zip_length, zip_rows, zipped}
 use Rattle.ps_frame.specs.declared.value.Value.{Value}

@@ -1,5 +1,5 @@
 -- Equi joins: each number of the left input stands for what its morsel gives over all right rows, and the number behind them for the right rows without a match.
-use Rattle.std.specs.Prelude.{◌≡◌, ℕ, ◌⊎◌, List, [], ◌∷◌, length, take, Some, get_or, slice_get, IsTrue, IsFalse}
+use Rattle.std.specs.Prelude.{◌≡◌, ℕ, ◌⊎◌, List, [], ◌∷◌, length, take, Some, slice_get, IsTrue, IsFalse}
 use Rattle.ps_frame.specs.Functions.{Functions}
 use Rattle.ps_frame.specs.Tables.{Row}
 use Rattle.ps_meaning.specs.Joins.{fills_right}

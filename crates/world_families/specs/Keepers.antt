@@ -2,7 +2,7 @@
 use Rattle.std.specs.Prelude.{◌≡◌, ℕ, ◌<◌, ◌≤◌, List, [], ◌∷◌, length, Option, Some, None, is_some, get_or, slice_get, Contains, IsTrue, IsFalse}
 use Rattle.ps_frame.specs.Functions.{Functions}
 use Rattle.ps_frame.specs.Tables.{Fields, IsWhole, Row, Table}
-use Rattle.ps_meaning.specs.Shape.{PhysicalCase, PhysicalKind, PhysicalNode, negative_slice}
+use Rattle.ps_meaning.specs.Shape.{PhysicalCase, PhysicalKind, negative_slice}
 use Rattle.ps_ports.specs.Ports.{is_done}
 use Rattle.ps_turns.specs.Ends.{HoldsEnd}
 use Rattle.ps_turns.specs.Heads.{stored_rows}
@@ -15,7 +15,7 @@ use Rattle.ps_turns.specs.Updates.{all_taken}
 use Rattle.ps_world.specs.Facts.{keeps_one}
 use Rattle.ps_world.specs.World.{Node, Pipe, World, running, schemas_for}
 use Rattle.world_families.specs.Sources.{HasGivenAll, KeepsNone, cut_work}
-use Rattle.world_families.specs.Work.{AllComplete, Enters, Gives, Leaves, Work, rows_read, rows_received, work_of}
+use Rattle.world_families.specs.Work.{AllComplete, Enters, Gives, Leaves, rows_read, rows_received, work_of}
 
 -- While it takes, none of its outputs is dropped; after that it is done with its inputs.
 pub record TakesFirst (w : World) (n : ℕ) (node : Node) : Type 0 where

@@ -5,7 +5,7 @@ use Rattle.ps_frame.specs.Tables.{Row}
 use Rattle.ps_turns.specs.Tasks.{hands_on}
 use Rattle.ps_world.specs.World.{Node, Pipe, World, pipes_in, schemas_for}
 use Rattle.world_families.specs.Sources.{KeepsNone}
-use Rattle.world_families.specs.Work.{AllComplete, Enters, Gives, IsComplete, Work}
+use Rattle.world_families.specs.Work.{AllComplete, Enters, Gives, IsComplete}
 
 -- the morsels that were read, one input after the other
 abbrev pub morsels_read : List Pipe → List (Option (List Row))

@@ -1,5 +1,5 @@
 -- What a node is to do for a number, and what came of it.
-use Rattle.std.specs.Prelude.{◌≡◌, ℕ, ◌⊎◌, ◌||◌, List, [], ◌∷◌, map, length, take, Some, slice_get, Contains, IsTrue}
+use Rattle.std.specs.Prelude.{◌≡◌, ℕ, ◌⊎◌, ◌||◌, List, map, length, take, Some, slice_get, Contains, IsTrue}
 use Rattle.ps_frame.specs.Functions.{Functions}
 use Rattle.ps_frame.specs.Tables.{Fields, Row}
 use Rattle.ps_ports.specs.Ports.{is_done}

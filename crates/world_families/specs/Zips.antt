@@ -9,7 +9,7 @@ use Rattle.ps_world.specs.Facts.{IsWorking}
 use Rattle.ps_world.specs.Laws.{sent_by}
 use Rattle.ps_world.specs.World.{Node, Pipe, World, pipes_in, schemas_for}
 use Rattle.world_families.specs.Sources.{KeepsNone}
-use Rattle.world_families.specs.Work.{AllComplete, Enters, Gives, IsComplete, Leaves, Work, rows_read}
+use Rattle.world_families.specs.Work.{AllComplete, Enters, Gives, IsComplete, Leaves, rows_read}
 
 -- without extension an input that is complete and had one row broadcasts it
 abbrev pub broadcasts : (extend : Bool) → Pipe → Bool

@@ -2,7 +2,7 @@
 ghost use Rattle.std.specs.Prelude.{◌≡◌, ℕ, Bool, IsFalse, IsTrue, List, Some, slice_get};
 ghost use Rattle.ps_frame.specs.Functions.{Functions, IsLawful};
 ghost use Rattle.ps_frame.specs.Tables.{Frame};
-ghost use Rattle.ps_meaning.specs.Shape.{PhysicalNode, Shape, in_memory_source, independent_select, ordered_union, reduce, zip_node};
+ghost use Rattle.ps_meaning.specs.Shape.{PhysicalNode, Shape, in_memory_sink, in_memory_source, independent_select, multiplexer, ordered_union, reduce, zip_node};
 ghost use Rattle.ps_meaning.specs.Sound.{input_schemas};
 ghost use Rattle.ps_meaning.specs.Steps.{Named};
 ghost use Rattle.ps_options.specs.declared.options.Options.{Options};
@@ -45,6 +45,12 @@ pub fn tables_are_justified()
 /// What a zip has sent is a front of the zip of its inputs, cut by cut.
 pub fn zips_are_justified()
     ensures { (F : Functions) (w : World) (n : ℕ) (p : PhysicalNode) (extend : Bool) → Known F w → slice_get (shape_of w) n ≡ Some p → p.kind ≡ zip_node extend → Holds F w n → Justified F p (input_schemas (shape_of w) p) (sent_to (sent_at w) p) (sent_at w n) }
+{}
+
+/// What a multiplexer has sent on each port, and what a sink has stored, is a front of its input, and all of it where it is complete.
+pub fn fronts_are_justified()
+    ensures ports { (F : Functions) (w : World) (n : ℕ) (p : PhysicalNode) → Known F w → slice_get (shape_of w) n ≡ Some p → p.kind ≡ multiplexer → Holds F w n → Justified F p (input_schemas (shape_of w) p) (sent_to (sent_at w) p) (sent_at w n) }
+    ensures sink { (F : Functions) (w : World) (n : ℕ) (p : PhysicalNode) → Known F w → slice_get (shape_of w) n ≡ Some p → p.kind ≡ in_memory_sink → Holds F w n → Justified F p (input_schemas (shape_of w) p) (sent_to (sent_at w) p) (sent_at w n) }
 {}
 
 /// Every step keeps it of a source, and so do updates and fills between phases.

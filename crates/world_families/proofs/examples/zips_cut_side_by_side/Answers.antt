@@ -1,4 +1,3 @@
-use Rattle.std.proofs.Common.{refl}
 use Rattle.world_families.proofs.ZipExamples.{not_before_it_is_complete, not_overlapping, side_by_side}
 use Rattle.world_families.proofs.examples.zips_cut_side_by_side.Goals as goal
 
