@@ -1,5 +1,5 @@
 -- What came to a node, input by input, is what the pipes to it have sent.
-use Rattle.std.proofs.Common.{◌≡◌, ℕ, zero, suc, ◌<◌, ◌≤◌, ◌+◌, ◌⊎◌, Bool, true, false, List, [], ◌∷◌, length, Option, Some, None, refl, sym, ap, subst, ◌∙◌, inl, inr, arith}
+use Rattle.std.proofs.Common.{◌≡◌, ℕ, zero, suc, ◌<◌, ◌≤◌, ◌+◌, ◌⊎◌, Bool, true, false, List, [], ◌∷◌, length, take, Option, Some, None, refl, sym, ap, subst, ◌∙◌, inl, inr, arith}
 use Rattle.std.specs.Prelude.{Contains, map, nat_eq, nat_lt, option_map, slice_get, ◌&&◌}
 use Rattle.std.specs.List.{filter as kept}
 use Rattle.std.proofs.lemmas.List.Elements.{Contains-append_cases}
@@ -64,6 +64,12 @@ pub past_none : {A : Type 0} (xs : List A) (k : ℕ) → slice_get xs k ≡ None
 past_none [] k e = omega arith
 past_none (x ∷ xs) zero e = absurd (nothing_is x (sym e))
 past_none (x ∷ xs) (suc k) e = let h = past_none xs k e in omega arith
+
+pub take_at : {A : Type 0} (xs : List A) (m k : ℕ) → k < m → slice_get (take m xs) k ≡ slice_get xs k
+take_at xs zero k less = absurd (omega arith)
+take_at [] (suc m) k less = refl
+take_at (x ∷ xs) (suc m) zero less = refl
+take_at (x ∷ xs) (suc m) (suc k) less = take_at xs m k (omega arith)
 
 -- THE INPUT OF A NODE FOR WHICH A PIPE STANDS
 record InputAt (n i : ℕ) (qs : List (ℕ × ℕ)) (x : Pipe) : Type 0 where

@@ -10,7 +10,8 @@ use Rattle.ps_turns.specs.Results.{IsPartial}
 use Rattle.ps_turns.specs.Tables.{whole_table}
 use Rattle.ps_turns.specs.Tasks.{Piece}
 use Rattle.ps_world.specs.World.{Pipe, rows_in_order}
-use Rattle.world_families.proofs.Members.{each_of, nothing_is, smaller}
+use Rattle.world_facts.proofs.Wiring.{each_of}
+use Rattle.world_families.proofs.Members.{nothing_is, smaller}
 use Rattle.world_families.specs.Examples.{a_join, a_schema, came, join_world, left_input, on_a, pipe, probing, right_input, row}
 use Rattle.world_families.specs.Joins.{HoldsJoin, IsJoinOf, IsJoinWork}
 use Rattle.world_families.specs.Keepers.{IsKeptOf, KeepsMorsels, slots_at}

@@ -12,7 +12,8 @@ use Rattle.ps_turns.specs.Tables.{whole_table}
 use Rattle.ps_turns.specs.Tasks.{Piece}
 use Rattle.ps_world.specs.Facts.{keeps_one}
 use Rattle.ps_world.specs.World.{Pipe}
-use Rattle.world_families.proofs.Members.{apart, each_of, nothing_is, smaller}
+use Rattle.world_facts.proofs.Wiring.{each_of}
+use Rattle.world_families.proofs.Members.{apart, nothing_is, smaller}
 use Rattle.world_families.specs.Examples.{a_reduce, a_schema, an_end, by_a, came, end_world, grouped_rows, keeping, pipe, reduce_world, row, slots}
 use Rattle.world_families.specs.Keepers.{HoldsMade, KeepsMorsels, Stores}
 use Rattle.world_families.specs.Work.{IsComplete}

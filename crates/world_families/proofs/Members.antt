@@ -1,15 +1,9 @@
--- What holds of each of a list, and rows that differ.
-use Rattle.std.proofs.Common.{◌≡◌, ℕ, zero, suc, ◌<◌, List, [], ◌∷◌, Some, None, ap, subst, arith}
-use Rattle.std.specs.Prelude.{Contains, pos}
-use Rattle.std.specs.List.{AllByRecursion}
+-- Numbers and rows that differ.
+use Rattle.std.proofs.Common.{◌≡◌, ℕ, ◌<◌, List, [], ◌∷◌, Some, None, ap, arith}
+use Rattle.std.specs.Prelude.{pos}
 use Rattle.ps_frame.specs.Tables.{Row}
 use Rattle.ps_frame.specs.declared.value.Value.{Value}
 use Rattle.ps_frame.specs.declared.value.Value.TheVariants as val
-
-pub each_of : {A : Type 0} (P : A → Type 0) (xs : List A) (x : A) → AllByRecursion P xs → Contains xs x → P x
-each_of P [] x all (k, h, e) = absurd (omega arith)
-each_of P (y ∷ ys) x all (zero, h, e) = subst P e all.0
-each_of P (y ∷ ys) x all (suc k, h, e) = each_of P ys x all.1 (k, omega arith, e)
 
 abbrev number_of : Value → ℕ
 number_of (val.Int64 (pos n)) = n

@@ -10,7 +10,8 @@ use Rattle.ps_world.specs.Booking.{HasBooked, HoldsAfter}
 use Rattle.ps_world.specs.Keeping.{IsFrontOf}
 use Rattle.ps_world.specs.Laws.{sent_by}
 use Rattle.ps_world.specs.World.{Pipe, World, rows_in_order}
-use Rattle.world_families.proofs.Members.{each_of, first_number, smaller}
+use Rattle.world_facts.proofs.Wiring.{each_of}
+use Rattle.world_families.proofs.Members.{first_number, smaller}
 use Rattle.world_families.specs.Examples.{a_port, a_schema, an_index, came, index_world, indexing, pipe, ports_world, row, slots}
 use Rattle.world_families.specs.Onward.{HoldsPassing, HoldsPorts, IsMorselWork}
 use Rattle.world_families.specs.Work.{PipesHold, Work, rows_read}

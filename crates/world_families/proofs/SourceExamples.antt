@@ -7,7 +7,8 @@ use Rattle.ps_ports.specs.declared.port_state.PortState.TheVariants as port
 use Rattle.ps_turns.specs.Tasks.{Piece}
 use Rattle.ps_world.specs.Laws.{sent_by}
 use Rattle.ps_world.specs.World.{Pipe}
-use Rattle.world_families.proofs.Members.{apart, each_of}
+use Rattle.world_facts.proofs.Wiring.{each_of}
+use Rattle.world_families.proofs.Members.{apart}
 use Rattle.world_families.specs.Examples.{a_schema, a_source, came, handing, pipe, row, slots, source_world, three_rows, two_workers}
 use Rattle.world_families.specs.Sources.{HasGivenAll, HoldsSource, cut_work}
 use Rattle.world_families.specs.Work.{Answers, Work, work_of}

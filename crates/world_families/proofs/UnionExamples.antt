@@ -6,7 +6,8 @@ use Rattle.ps_frame.specs.Tables.{Row}
 use Rattle.ps_ports.specs.declared.port_state.PortState.TheVariants as port
 use Rattle.ps_turns.specs.Tasks.{Piece, hands_on}
 use Rattle.ps_world.specs.World.{Pipe}
-use Rattle.world_families.proofs.Members.{apart, each_of}
+use Rattle.world_facts.proofs.Wiring.{each_of}
+use Rattle.world_families.proofs.Members.{apart}
 use Rattle.world_families.specs.Examples.{a_schema, a_union, came, pipe, row, slots, union_pipes, union_world}
 use Rattle.world_families.specs.Unions.{HoldsUnion}
 use Rattle.world_families.specs.Work.{AllComplete, Answers, IsComplete, Work, work_of}

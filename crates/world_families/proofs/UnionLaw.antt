@@ -17,7 +17,7 @@ use Rattle.ps_world.specs.Laws.{Extends, Justified, sent_at, sent_by, sent_to}
 use Rattle.ps_world.specs.World.{Node, Pipe, World, pipes_in, rows_in_order, schemas_for, shape_of}
 use Rattle.world_claims.specs.Numbering.{Known, counts_own}
 use Rattle.world_families.proofs.Complete.{filled, whole}
-use Rattle.world_families.proofs.Inputs.{enters, sent_to_is}
+use Rattle.world_families.proofs.Inputs.{enters, sent_to_is, take_at}
 use Rattle.world_families.proofs.Members.{nothing_is}
 use Rattle.world_families.proofs.Sent.{each_port, is_sink, node_of}
 use Rattle.world_families.proofs.SourceLaw.{from_single}
@@ -163,12 +163,6 @@ read_whole (q ∷ qs) (T ∷ Ts) came out all m =
     let u = union_whole T Ts h.1 in
     let here : rows_in_order (take q.next q.got) ≡ T.rows = ap rows_in_order (read_all q (out 0 q refl) (all 0 q refl)) ∙ h.0 in
     (rows_append (take q.next q.got) (morsels_read qs) (came 0 q refl) ∙ ap (λ z. z ++ rows_in_order (morsels_read qs)) here ∙ ap (λ z. T.rows ++ z) rest.0 ∙ sym u.0, u.1 ∙ rest.1)
-
-take_at : (xs : Slots) (m k : ℕ) → k < m → slice_get (take m xs) k ≡ slice_get xs k
-take_at xs zero k less = absurd (omega arith)
-take_at [] (suc m) k less = refl
-take_at (x ∷ xs) (suc m) zero less = refl
-take_at (x ∷ xs) (suc m) (suc k) less = take_at xs m k (omega arith)
 
 -- what a node read of an input had come
 pub read_came : (F : Functions) (w : World) (n : ℕ) → Known F w → (i : ℕ) (q : Pipe) → slice_get (pipes_in w n) i ≡ Some q → Came q

@@ -9,7 +9,7 @@ use Rattle.ps_ports.specs.declared.port_state.PortState.TheVariants as port
 use Rattle.ps_turns.specs.Heads.{stored_rows}
 use Rattle.ps_turns.specs.Tasks.{Piece, computes}
 use Rattle.ps_world.specs.World.{Pipe, World}
-use Rattle.world_families.proofs.Members.{each_of}
+use Rattle.world_facts.proofs.Wiring.{each_of}
 use Rattle.world_families.specs.Examples.{a_schema, a_zip, both_cuts, long_input, overlapping, pipe, row, single_input, three_rows, zip_piece, zip_world}
 use Rattle.world_families.specs.Work.{IsComplete, Leaves, Work, rows_read, work_of}
 use Rattle.world_families.specs.Zips.{HoldsZip, IsCut, ServesCut, rows_in_cut}

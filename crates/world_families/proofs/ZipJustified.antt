@@ -26,8 +26,9 @@ use Rattle.world_claims.specs.Numbering.{Known, counts_own}
 use Rattle.world_facts.proofs.Halting.{order_keeps}
 use Rattle.world_facts.proofs.HandedIn.{at_of, contains_of}
 use Rattle.world_facts.proofs.Placing.{in_place}
+use Rattle.world_facts.proofs.Wiring.{each_of}
 use Rattle.world_laws.proofs.Answered.{in_shape}
-use Rattle.world_laws.proofs.InOrder.{contains_cases, contains_first, contains_kept, contains_later, contains_map, none_in_nil}
+use Rattle.world_laws.proofs.InOrder.{contains_first, contains_kept, contains_later, contains_map}
 use Rattle.world_families.proofs.Complete.{filled, whole}
 use Rattle.world_families.proofs.Inputs.{enters, input_of, inputs_long, none_past, past_none, sent_to_is}
 use Rattle.world_families.proofs.Members.{nothing_is}
@@ -71,14 +72,6 @@ each_meant P [] [] h f = tt
 each_meant P [] (T ∷ Ts) h f = absurd h
 each_meant P (q ∷ qs) [] h f = absurd h
 each_meant P (q ∷ qs) (T ∷ Ts) h f = (f 0 q T refl h.0, each_meant P qs Ts h.1 (λ i r U e m. f (suc i) r U e m))
-
-of_each : {A : Type 0} (P : A → Type 0) (xs : List A) (x : A) → AllByRecursion P xs → Contains xs x → P x
-of_each P [] x all c = absurd (none_in_nil x c)
-of_each P (y ∷ ys) x all c = by (of_each P ys x all.1) (contains_cases y x ys c)
-  where
-    by : (Contains ys x → P x) → (y ≡ x) ⊎ Contains ys x → P x
-    by rest (inl same) = subst P same all.0
-    by rest (inr later) = rest later
 
 -- ONE CUT
 module _ (extend : Bool) (a b : ℕ) (some : a < b) where
@@ -143,9 +136,9 @@ module _ (extend : Bool) (a b : ℕ) (some : a < b) where
 
     cut_height : height extend Cs ≡ b - a
     cut_height =
-        let low = at_least extend (b - a) (extents (all_columns Cs)) (extent top_cut) (each_extent (λ x. Binds extend x → b - a ≤ x.len) Cs (λ t c. of_each (λ t. Binds extend (extent t) → b - a ≤ (extent t).len) Cs t (each_cut (λ t. Binds extend (extent t) → b - a ≤ (extent t).len) ss qs fills) c)) top_extent reached.0 in
-        let high = at_most extend (b - a) (extents (all_columns Cs)) (extent top_cut) (each_extent (λ (x : Extent). x.ended ≡ false) Cs (λ t c. of_each (λ t. (extent t).ended ≡ false) Cs t (each_cut (λ t. (extent t).ended ≡ false) ss qs (λ i q u g. refl)) c))
-        (each_extent (λ x. MayPass extend x → x.len ≤ b - a) Cs (λ t c. of_each (λ t. MayPass extend (extent t) → (extent t).len ≤ b - a) Cs t (each_cut (λ t. MayPass extend (extent t) → (extent t).len ≤ b - a) ss qs within) c)) top_extent reached.1 in
+        let low = at_least extend (b - a) (extents (all_columns Cs)) (extent top_cut) (each_extent (λ x. Binds extend x → b - a ≤ x.len) Cs (λ t c. each_of (λ t. Binds extend (extent t) → b - a ≤ (extent t).len) Cs t (each_cut (λ t. Binds extend (extent t) → b - a ≤ (extent t).len) ss qs fills) c)) top_extent reached.0 in
+        let high = at_most extend (b - a) (extents (all_columns Cs)) (extent top_cut) (each_extent (λ (x : Extent). x.ended ≡ false) Cs (λ t c. each_of (λ t. (extent t).ended ≡ false) Cs t (each_cut (λ t. (extent t).ended ≡ false) ss qs (λ i q u g. refl)) c))
+        (each_extent (λ x. MayPass extend x → x.len ≤ b - a) Cs (λ t c. each_of (λ t. MayPass extend (extent t) → (extent t).len ≤ b - a) Cs t (each_cut (λ t. MayPass extend (extent t) → (extent t).len ≤ b - a) ss qs within) c)) top_extent reached.1 in
         omega (arith, low, high)
 
     all_high : b ≤ height extend Ts
@@ -153,7 +146,7 @@ module _ (extend : Bool) (a b : ℕ) (some : a < b) where
         let there = contains_of Ts k top_table.0 top_table.1 in
         let more = longer top top_table.0 top_table.2 in
         at_least extend b (extents (all_columns Ts)) (extent top_table.0)
-        (each_extent (λ x. Binds extend x → b ≤ x.len) Ts (λ t c. of_each (λ t. Binds extend (extent t) → b ≤ (extent t).len) Ts t (each_meant (λ t. Binds extend (extent t) → b ≤ (extent t).len) qs Ts m (λ i q T g h. table_fills extend a b some q T h (s i q g))) c))
+        (each_extent (λ x. Binds extend x → b ≤ x.len) Ts (λ t c. each_of (λ t. Binds extend (extent t) → b ≤ (extent t).len) Ts t (each_meant (λ t. Binds extend (extent t) → b ≤ (extent t).len) qs Ts m (λ i q T g h. table_fills extend a b some q T h (s i q g))) c))
         (some_extent Ts top_table.0 there (wide k top_table.0.schema schema_there)) (omega (arith, more, full))
 
     pub piece_is : (node : ℕ) → (zipped extend node (all_columns Cs)).rows ≡ take (b - a) (drop a (map (zip_row extend Ts) (below (height extend Ts))))
@@ -324,8 +317,8 @@ module _ (F : Functions) (w : World) (n : ℕ) (node : Node) (extend : Bool) (kn
         let same = ap length (last top.0 done.reached.0 t.0 top.1 t.2).0 in
         let few = done.reached.2 in
         at_most extend node.progress.booked (extents (all_columns Ts)) (extent t.0)
-        (each_extent (λ (x : Extent). x.ended ≡ false) Ts (λ u c. of_each (λ u. (extent u).ended ≡ false) Ts u (each_meant (λ u. (extent u).ended ≡ false) qs Ts every not_ended) c))
-        (each_extent (λ x. MayPass extend x → x.len ≤ node.progress.booked) Ts (λ u c. of_each (λ u. MayPass extend (extent u) → (extent u).len ≤ node.progress.booked) Ts u (each_meant (λ u. MayPass extend (extent u) → (extent u).len ≤ node.progress.booked) qs Ts every not_more) c))
+        (each_extent (λ (x : Extent). x.ended ≡ false) Ts (λ u c. each_of (λ u. (extent u).ended ≡ false) Ts u (each_meant (λ u. (extent u).ended ≡ false) qs Ts every not_ended) c))
+        (each_extent (λ x. MayPass extend x → x.len ≤ node.progress.booked) Ts (λ u c. each_of (λ u. MayPass extend (extent u) → (extent u).len ≤ node.progress.booked) Ts u (each_meant (λ u. MayPass extend (extent u) → (extent u).len ≤ node.progress.booked) qs Ts every not_more) c))
         (some_extent Ts t.0 (contains_of Ts top.0 t.0 t.1) (wide top.0 t.0.schema schema)) (omega (arith, same, few))
 
     -- an input that doesn't broadcast has all rows that are booked
@@ -372,9 +365,9 @@ module _ (F : Functions) (w : World) (n : ℕ) (node : Node) (extend : Bool) (kn
         by true y = refl
         by false y =
             fits_shape false node.progress.booked (extents (all_columns Ts))
-            (each_extent (λ (x : Extent). x.ended ≡ false) Ts (λ u c. of_each (λ u. (extent u).ended ≡ false) Ts u (each_meant (λ u. (extent u).ended ≡ false) qs Ts every not_ended) c))
+            (each_extent (λ (x : Extent). x.ended ≡ false) Ts (λ u c. each_of (λ u. (extent u).ended ≡ false) Ts u (each_meant (λ u. (extent u).ended ≡ false) qs Ts every not_ended) c))
             (each_extent (λ (x : Extent). (not x.ended && not (x.len == 1)) ≡ true → x.len ≡ node.progress.booked) Ts
-            (λ u c. of_each (λ u. (not (extent u).ended && not ((extent u).len == 1)) ≡ true → (extent u).len ≡ node.progress.booked) Ts u
+            (λ u c. each_of (λ u. (not (extent u).ended && not ((extent u).len == 1)) ≡ true → (extent u).len ≡ node.progress.booked) Ts u
             (each_meant (λ u. (not (extent u).ended && not ((extent u).len == 1)) ≡ true → (extent u).len ≡ node.progress.booked) qs Ts every (λ i q T g k. open_length i q T g k y)) c))
 
     whole_table_is : IsWhole (zip_table F node.node Ts extend)

@@ -17,7 +17,7 @@ use Rattle.world_facts.proofs.OpeningFacts.{map_append}
 use Rattle.ps_frame.proofs.Gathers.{length-below}
 use Rattle.world_facts.proofs.Slots.{at_before, at_end}
 use Rattle.world_laws.proofs.InOrder.{contains_cases, contains_first, contains_later, none_in_nil}
-use Rattle.world_families.proofs.Inputs.{none_past, same_at}
+use Rattle.world_families.proofs.Inputs.{none_past, same_at, take_at}
 
 map_same : {A B : Type 0} (f g : A → B) (xs : List A) → ((x : A) → f x ≡ g x) → map f xs ≡ map g xs
 map_same f g [] h = refl
@@ -153,14 +153,6 @@ some_extent (u ∷ ts) t c h = subst (λ es. Contains es (extent t)) (sym (map_a
     by rest (inr later) = append_second (extents (columns_of u)) (extents (all_columns ts)) (extent t) (rest later h)
 
 -- LENGTHS
-pub each_of_all : {A : Type 0} (P : A → Type 0) (xs : List A) (x : A) → AllByRecursion P xs → Contains xs x → P x
-each_of_all P [] x all c = absurd (none_in_nil x c)
-each_of_all P (y ∷ ys) x all c = by (each_of_all P ys x all.1) (contains_cases y x ys c)
-  where
-    by : (Contains ys x → P x) → (y ≡ x) ⊎ Contains ys x → P x
-    by rest (inl same) = subst P same all.0
-    by rest (inr later) = rest later
-
 -- those lengths that pass a test
 where_all : (P : ℕ → Type 0) (test : Extent → Bool) (es : List Extent) → AllByRecursion (λ (e : Extent). test e ≡ true → P e.len) es → AllByRecursion P (lengths_where test es)
 where_all P test [] all = tt
@@ -302,12 +294,6 @@ first_or (suc n) (suc k) = by (first_or n k)
     by : (n ≤ k) ⊎ (k < n) → (suc n ≤ suc k) ⊎ (suc k < suc n)
     by (inl l) = inl (omega arith)
     by (inr l) = inr (omega arith)
-
-take_at : {A : Type 0} (xs : List A) (m k : ℕ) → k < m → slice_get (take m xs) k ≡ slice_get xs k
-take_at xs zero k less = absurd (omega arith)
-take_at [] (suc m) k less = refl
-take_at (x ∷ xs) (suc m) zero less = refl
-take_at (x ∷ xs) (suc m) (suc k) less = take_at xs m k (omega arith)
 
 drop_at : {A : Type 0} (xs : List A) (a k : ℕ) → slice_get (drop a xs) k ≡ slice_get xs (a + k)
 drop_at xs zero k = let e : k ≡ 0 + k = omega arith in ap (slice_get xs) e
