@@ -1,0 +1,9 @@
+pub mod Work
+pub mod Sources
+pub mod Unions
+pub mod Zips
+pub mod Keepers
+pub mod Joins
+pub mod Onward
+pub mod Holds
+pub mod Examples
