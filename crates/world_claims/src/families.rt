@@ -12,11 +12,11 @@ ghost use Rattle.world_claims.specs.Numbering.{Known};
 
 /// What the families of nodes keep, with their law, and that updates come to rest. Whoever proves these of every kind of node has what is promised of every reached world.
 pub trait Families {
-    /// What a world keeps of the node of a number and its own pipes.
-    ghost holds: { World → ℕ → Type 0 };
+    /// What a world keeps of the node of a number and its own pipes, where these are the handed-in functions.
+    ghost holds: { Functions → World → ℕ → Type 0 };
 
     /// It begins, is kept by every step, and gives the three parts of the law, for nodes of every kind.
-    ghost law: { (F : Functions) → IsLawful F → FamilyLaw F AnyKind (Known F) holds };
+    ghost law: { (F : Functions) → IsLawful F → FamilyLaw F AnyKind (Known F) (holds F) };
 
     /// Between phases a list of updates and fills comes to rest, or finds a fault.
     ghost rests: { (F : Functions) → IsLawful F → ComesToRest F (Known F) };
