@@ -30,7 +30,7 @@ use Rattle.world_ends.proofs.Stored.{HasMade, HasStores}
 use Rattle.world_ends.proofs.Tests.{ready_not_done}
 
 -- LISTS IN ORDER
-place : {A : Type 0} (xs : List A) (i : ℕ) → i < length xs → (x : A) × (slice_get xs i ≡ Some x)
+pub place : {A : Type 0} (xs : List A) (i : ℕ) → i < length xs → (x : A) × (slice_get xs i ≡ Some x)
 place [] i h = absurd (omega arith)
 place (x ∷ xs) zero h = (x, refl)
 place (x ∷ xs) (suc i) h = place xs i (omega arith)
@@ -56,7 +56,7 @@ map_kept f t (x ∷ xs) = by (t (f x)) refl (map_kept f t xs)
     by false e rest = rw e rest
 
 -- the wires of the pipes into a node and out of it
-wires_into : (w : World) (n : ℕ) → map (λ (p : Pipe). p.wire) (pipes_in w n) ≡ wires_in n (wires_of w)
+pub wires_into : (w : World) (n : ℕ) → map (λ (p : Pipe). p.wire) (pipes_in w n) ≡ wires_in n (wires_of w)
 wires_into w n =
     map_order (λ (p : Pipe). p.wire) (λ (p q : Wire). nat_lt p.input q.input) (kept (λ (p : Pipe). nat_eq p.wire.receiver n) w.pipes)
     ∙ ap (in_order (λ (p q : Wire). nat_lt p.input q.input)) (map_kept (λ (p : Pipe). p.wire) (λ (p : Wire). nat_eq p.receiver n) w.pipes)
@@ -82,13 +82,13 @@ heads_over w n node (zip_node extend) e = ap (λ (x : PhysicalKind). heads_of w 
 heads_over w n node kind e = ap (λ (x : PhysicalKind). heads_of w n (record node { node = record node.node { kind = x } })) e
 
 -- STATES
-kept_at : (gs as' : List PortState) (i : ℕ) (d : PortState) → i < length gs → length gs ≤ length as' → get_or (kept_done gs as') i d ≡ kept_state (get_or gs i d) (get_or as' i d)
+pub kept_at : (gs as' : List PortState) (i : ℕ) (d : PortState) → i < length gs → length gs ≤ length as' → get_or (kept_done gs as') i d ≡ kept_state (get_or gs i d) (get_or as' i d)
 kept_at [] as' i d h l = absurd (omega arith)
 kept_at (g ∷ gs) [] i d h l = absurd (omega arith)
 kept_at (g ∷ gs) (a ∷ as') zero d h l = refl
 kept_at (g ∷ gs) (a ∷ as') (suc i) d h l = kept_at gs as' i d (omega arith) (omega arith)
 
-ready_new : (old new : PortState) → is_ready (kept_state old new) ≡ true → is_ready new ≡ true
+pub ready_new : (old new : PortState) → is_ready (kept_state old new) ≡ true → is_ready new ≡ true
 ready_new port.Done new e = absurd (let no : false ≡ true = e in cc)
 ready_new port.Ready new e = e
 ready_new port.Blocked new e = e
@@ -121,11 +121,11 @@ module _ (F : Functions) (s : World) (f : Facts F s) (rest : IsSettled s) where
   abbrev answer_of_node : ℕ → Node → Sides
   answer_of_node n node = answer_by s.options node.node.kind node.progress (heads_of s n node) (empty_outs s n) (given_at s n)
 
-  wire_of : (x : Pipe) → Contains s.pipes x → Contains (wires_of s) x.wire
+  pub wire_of : (x : Pipe) → Contains s.pipes x → Contains (wires_of s) x.wire
   wire_of x c = contains_map (λ (y : Pipe). y.wire) x s.pipes c
 
   -- an input that is sent and answered ready is read ready
-  read_ready : (y : Pipe) → Contains s.pipes y → (node : Node) → slice_get s.nodes y.wire.receiver ≡ Some node → IsReadyAt (answer_of_node y.wire.receiver node).inputs y.wire.input → is_ready y.wire.send_state ≡ true → is_ready y.wire.receive_state ≡ true
+  pub read_ready : (y : Pipe) → Contains s.pipes y → (node : Node) → slice_get s.nodes y.wire.receiver ≡ Some node → IsReadyAt (answer_of_node y.wire.receiver node).inputs y.wire.input → is_ready y.wire.send_state ≡ true → is_ready y.wire.receive_state ≡ true
   read_ready y c node e at send =
       let n = y.wire.receiver in
       let d = y.wire.receive_state in
@@ -158,7 +158,7 @@ module _ (F : Functions) (s : World) (f : Facts F s) (rest : IsSettled s) where
       (y.0, y.1, receiver, and_true (is_ready y.0.wire.send_state) (is_ready y.0.wire.receive_state) send read)
 
   -- a pipe stands at its port among those that leave its sender
-  from_wire : (o : Option Pipe) (u : Wire) → option_map (λ (p : Pipe). p.wire) o ≡ Some u → (y : Pipe) × (o ≡ Some y) × (y.wire ≡ u)
+  pub from_wire : (o : Option Pipe) (u : Wire) → option_map (λ (p : Pipe). p.wire) o ≡ Some u → (y : Pipe) × (o ≡ Some y) × (y.wire ≡ u)
   from_wire None u e = absurd (let no : None ≡ Some u = e in cc)
   from_wire (Some y) u e = (y, refl, let q : Some y.wire ≡ Some u = e in cc)
 

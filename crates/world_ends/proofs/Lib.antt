@@ -1,9 +1,9 @@
-mod Tests
-mod Stored
-mod ZipClaims
-mod Reasons
-mod Back
-mod InPhase
-mod Waits
-mod NotIdle
-mod Endless
+pub mod Tests
+pub mod Stored
+pub mod ZipClaims
+pub mod Reasons
+pub mod Back
+pub mod InPhase
+pub mod Waits
+pub mod NotIdle
+pub mod Endless

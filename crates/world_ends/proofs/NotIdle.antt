@@ -58,7 +58,7 @@ empty_list [] none = refl
 empty_list (q ∷ qs) none = absurd (none q (contains_first q qs))
 
 -- a node with its mark
-marked_at : (ns : List ℕ) (j : ℕ) (nodes : List Node) (m : ℕ) (x : Node) → slice_get nodes m ≡ Some x → (y : Node) × (slice_get (marked_nodes ns j nodes) m ≡ Some y) × (y.node ≡ x.node) × (y.progress ≡ x.progress)
+pub marked_at : (ns : List ℕ) (j : ℕ) (nodes : List Node) (m : ℕ) (x : Node) → slice_get nodes m ≡ Some x → (y : Node) × (slice_get (marked_nodes ns j nodes) m ≡ Some y) × (y.node ≡ x.node) × (y.progress ≡ x.progress)
 marked_at ns j [] m x e = absurd (let no : None ≡ Some x = e in cc)
 marked_at ns j (z ∷ zs) zero x e = let is : z ≡ x = (let q : Some z ≡ Some x = e in cc) in (record z { in_phase = is_one_of j ns }, refl, ap (λ (y : Node). y.node) is, ap (λ (y : Node). y.progress) is)
 marked_at ns j (z ∷ zs) (suc m) x e = marked_at ns (j + 1) zs m x e
@@ -66,7 +66,7 @@ marked_at ns j (z ∷ zs) (suc m) x e = marked_at ns (j + 1) zs m x e
 abbrev length_of : Node → ℕ
 length_of x = length x.node.inputs
 
-abbrev Same : Node → Node → Type 0
+abbrev pub Same : Node → Node → Type 0
 Same x y = (y.node ≡ x.node) × (y.progress ≡ x.progress)
 
 -- A SETTLED WORLD WHOSE PHASE OPENS

@@ -79,17 +79,13 @@ same_at (s ∷ ss) (suc i) d e h = same_at ss i d e (omega arith)
 ready_at : (ss : List PortState) (i : ℕ) (d : PortState) → i < length ss → is_ready (get_or ss i d) ≡ true → IsReadyAt ss i
 ready_at ss i d h r e = ap is_ready (same_at ss i e d h) ∙ r
 
-repeated_at : (s : PortState) (ss : List PortState) (i : ℕ) → i < length ss → (d : PortState) → get_or (repeated s ss) i d ≡ s
+pub repeated_at : (s : PortState) (ss : List PortState) (i : ℕ) → i < length ss → (d : PortState) → get_or (repeated s ss) i d ≡ s
 repeated_at s [] i h d = absurd (omega arith)
 repeated_at s (x ∷ ss) zero h d = refl
 repeated_at s (x ∷ ss) (suc i) h d = repeated_at s ss i (omega arith) d
 
 never_done : (ss : List PortState) (i : ℕ) (d : PortState) → i < length ss → is_ready (get_or (repeated port.Done ss) i d) ≡ true → ⊥
 never_done ss i d h r = let no : false ≡ true = sym (ap is_ready (repeated_at port.Done ss i h d)) ∙ r in cc
-
-first_is : (ss : List PortState) → 1 ≤ length ss → IsReadyAt ss 0 → is_ready (first_port ss) ≡ true
-first_is [] h r = absurd (omega arith)
-first_is (s ∷ ss) h r = r port.Done
 
 at_first : (ss : List PortState) → is_ready (first_port ss) ≡ true → (d : PortState) → is_ready (get_or ss 0 d) ≡ true
 at_first [] r d = absurd (let no : false ≡ true = r in cc)

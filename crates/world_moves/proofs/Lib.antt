@@ -1,0 +1,7 @@
+mod Standing
+mod Takers
+mod Reached
+mod Takes
+mod ZipMoves
+mod NodeMoves
+mod GoesOn
