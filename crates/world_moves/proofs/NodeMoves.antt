@@ -269,7 +269,7 @@ module _ (F : Functions) (w : World) (known : Known F w) (fits : InputsFit w) (r
               by (inr d) = by_closed (or_second z.is_closed (is_done z.wire.send_state) d)
 
       zip_moves : Moves F w n
-      zip_moves = claims 0 c0.0 (subst (λ kd. claim_by w.options node.node (schemas_for w node) kd node.progress hs (inputs_done w n) 0 (next_morsel (inputs_in_phase w n 0)) ≡ Some c0.0) (sym kind) c0.1)
+      zip_moves = claims 0 first_claim.0 (subst (λ kd. claim_by w.options node.node (schemas_for w node) kd node.progress hs (inputs_done w n) 0 (next_morsel (inputs_in_phase w n 0)) ≡ Some first_claim.0) (sym kind) first_claim.1)
         where
           h : p.wire.input < length (given_at w n).inputs
           h = within p c mine on has
@@ -285,8 +285,8 @@ module _ (F : Functions) (w : World) (known : Known F w) (fits : InputsFit w) (r
           tests : (list_all (is_ready_head extend) hs && list_any (λ (x : Head). not (is_empty x.rest)) hs) ≡ true
           tests = zip_has_claim extend node.progress.booked (inputs_done w n) node.progress.stores hs hs_are p.wire.input (omega (arith, h, long)) open_input head_ready
 
-          c0 : (d : Claim) × (claim_by w.options node.node (schemas_for w node) (zip_node extend) node.progress hs (inputs_done w n) 0 (next_morsel (inputs_in_phase w n 0)) ≡ Some d)
-          c0 = exists_if (list_all (is_ready_head extend) hs && list_any (λ (x : Head). not (is_empty x.rest)) hs) _ tests
+          first_claim : (d : Claim) × (claim_by w.options node.node (schemas_for w node) (zip_node extend) node.progress hs (inputs_done w n) 0 (next_morsel (inputs_in_phase w n 0)) ≡ Some d)
+          first_claim = exists_if (list_all (is_ready_head extend) hs && list_any (λ (x : Head). not (is_empty x.rest)) hs) _ tests
 
     module _ (stored : HasStores (length node.node.inputs) node.node.kind node.progress) where
       with_next : ((p : Pipe) → Contains w.pipes p → p.wire.receiver ≡ n → p.in_phase ≡ true → has_next p ≡ false → is_over p ≡ true) → (p : Pipe) → Contains w.pipes p → p.wire.receiver ≡ n → p.in_phase ≡ true → has_next p ≡ true → Moves F w n
