@@ -10,3 +10,5 @@ pub mod Failing
 pub mod Sweeping
 pub mod MarkLemmas
 pub mod Growing
+pub mod Ordering
+pub mod Completing

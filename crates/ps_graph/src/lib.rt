@@ -2,6 +2,7 @@
 #![tactic(auto)]
 
 pub mod adding;
+pub mod complete;
 pub mod compute_node;
 pub mod end;
 mod ends;
