@@ -1,12 +1,11 @@
 -- A graph that is put together and lacks nothing may run.
-use Rattle.std.proofs.Common.{◌≡◌, ℕ, ◌+◌, ◌<◌, Bool, true, false, cond, List, [], ◌∷◌, length, Some, sym, ap, refl, subst, ◌∙◌, arith}
-use Rattle.std.specs.Prelude.{Contains, ◌&&◌, count_by, map, nat_eq, nat_lt, slice_get}
+use Rattle.std.proofs.Common.{◌≡◌, ℕ, ◌<◌, Bool, true, false, cond, List, [], ◌∷◌, length, sym, ap, refl, subst, ◌∙◌, arith}
+use Rattle.std.specs.Prelude.{◌&&◌, count_by, map, nat_eq, nat_lt}
 use Rattle.std.specs.List.{filter as kept}
 use Rattle.std.proofs.lemmas.List.Sums.{length-filter}
-use Rattle.keyed_slots.specs.Slots.{value_at}
 use Rattle.ps_frame.specs.Sorting.{in_order}
 use Rattle.ps_frame.specs.Zip.{below}
-use Rattle.ps_ports.specs.Wires.{IsWired, Wire, wires_in, wires_out}
+use Rattle.ps_ports.specs.Wires.{Wire, wires_in, wires_out}
 use Rattle.ps_settle.proofs.Members.{at_map, contains_at, in_order-map, kept-map, length_map, map_at, map_twice, place_of}
 use Rattle.ps_graph.specs.declared.graph.Graph.{Graph}
 use Rattle.ps_graph.specs.declared.graph.GraphNode.{GraphNode}
@@ -16,7 +15,7 @@ use Rattle.ps_graph.specs.Shown.{CanRun, IsLinked, inputs_into, is_to, nodes_of,
 use Rattle.ps_graph.proofs.Ordering.{count-map, each_once, in_order-below}
 use Rattle.ps_graph.proofs.Places.{length_in_order, length_there, value_there}
 
-kept-both : {A : Type 0} (first then : A → Bool) (xs : List A) → kept then (kept first xs) ≡ kept (λ x. first x && then x) xs
+pub kept-both : {A : Type 0} (first then : A → Bool) (xs : List A) → kept then (kept first xs) ≡ kept (λ x. first x && then x) xs
 kept-both first then [] = refl
 kept-both first then (x ∷ xs) = by (first x) (kept-both first then xs)
   where

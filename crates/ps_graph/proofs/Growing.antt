@@ -21,7 +21,7 @@ use Rattle.ps_graph.proofs.Places.{length_places, length_there, value_there}
 use Rattle.ps_graph.proofs.Telling.{value_other, value_set}
 use Rattle.ps_graph.proofs.Turning.{map_set, set_same, there_set, values_set}
 
-map-append : {A B : Type 0} (f : A → B) (xs ys : List A) → map f (xs ++ ys) ≡ map f xs ++ map f ys
+pub map-append : {A B : Type 0} (f : A → B) (xs ys : List A) → map f (xs ++ ys) ≡ map f xs ++ map f ys
 map-append f [] ys = refl
 map-append f (x ∷ xs) ys = ap (λ l. f x ∷ l) (map-append f xs ys)
 
@@ -39,7 +39,7 @@ there-more [] x e = refl
 there-more (None ∷ ys) x e = absurd (let clash : false ≡ true = e in cc)
 there-more (Some y ∷ ys) x e = there-more ys x e
 
-places-more : {A : Type 0} (k : ℕ) (test : A → Bool) (xs : List A) (x : A) → places_from k test (xs ++ x ∷ []) ≡ places_from k test xs ++ cond (test x) ((k + length xs) ∷ []) []
+pub places-more : {A : Type 0} (k : ℕ) (test : A → Bool) (xs : List A) (x : A) → places_from k test (xs ++ x ∷ []) ≡ places_from k test xs ++ cond (test x) ((k + length xs) ∷ []) []
 places-more k test [] x = by (test x)
   where
     by : (b : Bool) → cond b (k ∷ []) [] ≡ cond b ((k + 0) ∷ []) []
@@ -69,7 +69,7 @@ inputs-more n (q ∷ qs) p = by (is_to n q) (inputs-more n qs p)
     by true rest = ap (λ l. q.recv_port ∷ l) rest
     by false rest = rest
 
-append_nil : {A : Type 0} (xs : List A) → xs ++ [] ≡ xs
+pub append_nil : {A : Type 0} (xs : List A) → xs ++ [] ≡ xs
 append_nil [] = refl
 append_nil (x ∷ xs) = ap (λ l. x ∷ l) (append_nil xs)
 

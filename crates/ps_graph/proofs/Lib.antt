@@ -12,3 +12,7 @@ pub mod MarkLemmas
 pub mod Growing
 pub mod Ordering
 pub mod Completing
+pub mod Feeding
+pub mod Passing
+pub mod Choosing
+pub mod Scanning

@@ -1,5 +1,5 @@
 -- Numbers in order: those from 0 on, each once.
-use Rattle.std.proofs.Common.{◌≡◌, ℕ, zero, suc, ◌+◌, ◌<◌, ◌≤◌, ◌⊎◌, Bool, true, false, cond, List, [], ◌∷◌, ◌++◌, length, refl, sym, ap, subst, ◌∙◌, inl, inr, arith}
+use Rattle.std.proofs.Common.{◌≡◌, ℕ, zero, suc, ◌+◌, ◌<◌, ◌≤◌, Bool, true, false, cond, List, [], ◌∷◌, ◌++◌, length, refl, sym, ap, subst, ◌∙◌, inl, inr, arith}
 use Rattle.std.specs.Prelude.{count_by, map, nat_eq, nat_lt}
 use Rattle.std.specs.List.{filter as kept}
 use Rattle.std.proofs.lemmas.Bool.{cases_eq}
@@ -7,7 +7,7 @@ use Rattle.std.proofs.lemmas.Bool.Decides.{nat_tests}
 use Rattle.std.proofs.lemmas.List.Sums.{length-filter}
 use Rattle.ps_frame.specs.Sorting.{in_order, insert_in_order}
 use Rattle.ps_frame.specs.Zip.{below}
-use Rattle.ps_settle.proofs.Ends.{is_number, other_number, same_number}
+use Rattle.ps_settle.proofs.Ends.{other_number, same_number}
 use Rattle.ps_settle.proofs.Members.{kept-map, length_map}
 use Rattle.ps_graph.proofs.Places.{length_in_order}
 

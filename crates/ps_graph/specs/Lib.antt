@@ -6,3 +6,4 @@ pub mod Origins
 pub mod Turning
 pub mod Adding
 pub mod Complete
+pub mod Running

@@ -10,5 +10,6 @@ pub mod graph;
 pub mod key;
 pub mod marks;
 mod origins;
+pub mod phase;
 mod turns;
 pub mod update;
