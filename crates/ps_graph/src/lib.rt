@@ -6,6 +6,7 @@ pub mod complete;
 pub mod compute_node;
 pub mod end;
 mod ends;
+pub mod examples;
 pub mod graph;
 pub mod key;
 pub mod marks;
