@@ -22,7 +22,7 @@ fn port(text: &str) -> Result<(GraphNodeKey, usize), Fail> {
 }
 
 // The inputs of a node; `-` is none.
-fn inputs(alloc: Global, text: &str) -> Result<Vec<(GraphNodeKey, usize)>, Fail> {
+pub fn inputs(alloc: Global, text: &str) -> Result<Vec<(GraphNodeKey, usize)>, Fail> {
     let mut inputs = Vec::new(alloc);
     if text == "-" {
         return Ok(inputs);
@@ -46,10 +46,10 @@ fn are_there(count: usize, inputs: &[(GraphNodeKey, usize)]) -> bool
 }
 
 // Adds a node, once all that it reads is there.
-fn add(
-    graph: &mut Graph<u32>,
+pub fn add<N: Drop>(
+    graph: &mut Graph<N>,
     alloc: Global,
-    node: u32,
+    node: N,
     inputs: &[(GraphNodeKey, usize)],
 ) -> Result<(), Fail>
     requires { IsLinked graph.old }
@@ -61,7 +61,7 @@ fn add(
     if graph.count() >= 1000 || graph.pipes.len() >= 1000 || inputs.len() >= 1000 {
         return Err(Fail::from("too large a graph"));
     }
-    match graph.add_node(alloc, node, Node(node as usize), inputs) {
+    match graph.add_node(alloc, node, Node(0), inputs) {
         Ok(_) => Ok(()),
         Err(_) => Err(Fail::from("no node")),
     }

@@ -1,5 +1,9 @@
-// Trials of graphs: how they are put together.
+// Trials of graphs: how they are put together, and which part of them runs next.
 #![tactic(auto)]
 
 #[cfg(test)]
 mod adding;
+mod kind;
+mod node;
+#[cfg(test)]
+mod phases;

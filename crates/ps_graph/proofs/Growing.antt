@@ -1,10 +1,12 @@
 -- A graph with one pipe more, with all pipes of a node, and with the node.
 use Rattle.std.proofs.Common.{◌≡◌, ◌≢◌, ℕ, zero, suc, ◌+◌, ◌<◌, ◌≤◌, ◌^◌, ◌⊎◌, Bool, true, false, cond, List, [], ◌∷◌, ◌++◌, length, take, Option, Some, None, get_or, refl, sym, ap, subst, ◌∙◌, inl, inr, arith}
 use Rattle.std.specs.Prelude.{Contains, Err, IfSome, Ok, OnOk, Result, IsTrue, map, slice_get, slice_set}
+use Rattle.std.specs.List.{filter as kept}
 use Rattle.std.proofs.lemmas.Bool.{cases_eq}
 use Rattle.keyed_slots.specs.Slots.{value_at}
+use Rattle.ps_frame.specs.Zip.{below}
 use Rattle.ps_ports.specs.Wires.{Wire}
-use Rattle.ps_settle.proofs.Ends.{other_number, same_number}
+use Rattle.ps_settle.proofs.Ends.{is_number, other_number, same_number}
 use Rattle.ps_settle.proofs.Members.{contains_cases, contains_first, contains_later, item_at, length_map, map_at, none_in_nil}
 use Rattle.ps_settle.proofs.Passes.{length_set}
 use Rattle.ps_graph.specs.declared.graph.Graph.{Graph}
@@ -13,17 +15,17 @@ use Rattle.ps_graph.specs.declared.graph.LogicalPipe.{LogicalPipe}
 use Rattle.ps_graph.specs.declared.key.GraphNodeKey.{GraphNodeKey}
 use Rattle.ps_graph.specs.declared.key.LogicalPipeKey.{LogicalPipeKey}
 use Rattle.ps_graph.specs.Adding.{WithOutput, WithPipes, fresh_pipe, fresh_wire, fresh_wires}
-use Rattle.ps_graph.specs.Shown.{IsLinked, IsLinkedUpTo, are_there, is_from, is_to, nodes_of, numbers, places_from, values, wire_of, wires_of}
+use Rattle.ps_graph.specs.Shown.{IsLinked, IsLinkedUpTo, are_there, inputs_into, is_from, is_to, nodes_of, numbers, places_from, values, wire_of, wires_of}
 use Rattle.ps_graph.specs.Turning.{origins_of}
-use Rattle.ps_graph.proofs.Places.{length_there, value_there}
+use Rattle.ps_graph.proofs.Places.{length_places, length_there, value_there}
 use Rattle.ps_graph.proofs.Telling.{value_other, value_set}
 use Rattle.ps_graph.proofs.Turning.{map_set, set_same, there_set, values_set}
 
-map-append : {A B : Type 0} (f : A → B) (xs ys : List A) → map f (xs ++ ys) ≡ map f xs ++ map f ys
+pub map-append : {A B : Type 0} (f : A → B) (xs ys : List A) → map f (xs ++ ys) ≡ map f xs ++ map f ys
 map-append f [] ys = refl
 map-append f (x ∷ xs) ys = ap (λ l. f x ∷ l) (map-append f xs ys)
 
-length-more : {A : Type 0} (xs : List A) (x : A) → length (xs ++ x ∷ []) ≡ length xs + 1
+pub length-more : {A : Type 0} (xs : List A) (x : A) → length (xs ++ x ∷ []) ≡ length xs + 1
 length-more [] x = refl
 length-more (y ∷ ys) x = let rest = length-more ys x in omega (arith, rest)
 
@@ -37,7 +39,7 @@ there-more [] x e = refl
 there-more (None ∷ ys) x e = absurd (let clash : false ≡ true = e in cc)
 there-more (Some y ∷ ys) x e = there-more ys x e
 
-places-more : {A : Type 0} (k : ℕ) (test : A → Bool) (xs : List A) (x : A) → places_from k test (xs ++ x ∷ []) ≡ places_from k test xs ++ cond (test x) ((k + length xs) ∷ []) []
+pub places-more : {A : Type 0} (k : ℕ) (test : A → Bool) (xs : List A) (x : A) → places_from k test (xs ++ x ∷ []) ≡ places_from k test xs ++ cond (test x) ((k + length xs) ∷ []) []
 places-more k test [] x = by (test x)
   where
     by : (b : Bool) → cond b (k ∷ []) [] ≡ cond b ((k + 0) ∷ []) []
@@ -53,13 +55,44 @@ places-more k test (y ∷ ys) x = by (test y) (places-more (k + 1) test ys x)
     by true rest = ap (λ l. k ∷ l) (rest ∙ ap (λ l. places_from (k + 1) test ys ++ l) (shift (test x)))
     by false rest = rest ∙ ap (λ l. places_from (k + 1) test ys ++ l) (shift (test x))
 
-append_nil : {A : Type 0} (xs : List A) → xs ++ [] ≡ xs
+inputs-more : (n : ℕ) (pipes : List LogicalPipe) (p : LogicalPipe) → inputs_into n (pipes ++ p ∷ []) ≡ inputs_into n pipes ++ cond (is_to n p) (p.recv_port ∷ []) []
+inputs-more n [] p = by (is_to n p)
+  where
+    by : (b : Bool) → map (λ (q : LogicalPipe). q.recv_port) (cond b (p ∷ []) []) ≡ cond b (p.recv_port ∷ []) []
+    by true = refl
+    by false = refl
+inputs-more n (q ∷ qs) p = by (is_to n q) (inputs-more n qs p)
+  where
+    by : (b : Bool) → inputs_into n (qs ++ p ∷ []) ≡ inputs_into n qs ++ cond (is_to n p) (p.recv_port ∷ []) []
+        → map (λ (r : LogicalPipe). r.recv_port) (cond b (q ∷ kept (is_to n) (qs ++ p ∷ [])) (kept (is_to n) (qs ++ p ∷ [])))
+        ≡ map (λ (r : LogicalPipe). r.recv_port) (cond b (q ∷ kept (is_to n) qs) (kept (is_to n) qs)) ++ cond (is_to n p) (p.recv_port ∷ []) []
+    by true rest = ap (λ l. q.recv_port ∷ l) rest
+    by false rest = rest
+
+pub append_nil : {A : Type 0} (xs : List A) → xs ++ [] ≡ xs
 append_nil [] = refl
 append_nil (x ∷ xs) = ap (λ l. x ∷ l) (append_nil xs)
 
 no_places : {A : Type 0} (k : ℕ) (test : A → Bool) (xs : List A) → ((x : A) → Contains xs x → test x ≡ false) → places_from k test xs ≡ []
 no_places k test [] h = refl
 no_places k test (x ∷ xs) h = let first : test x ≡ false = h x (contains_first x x xs refl) in rw first (no_places (k + 1) test xs (λ y c. h y (contains_later x y xs c)))
+
+-- the inputs are numbered with one pipe more, which leads to the next input if it leads to the node
+numbered_more : (n : ℕ) (pipes : List LogicalPipe) (p : LogicalPipe) → inputs_into n pipes ≡ below (length (inputs_into n pipes)) → (is_to n p ≡ true → p.recv_port ≡ length (inputs_into n pipes))
+    → inputs_into n (pipes ++ p ∷ []) ≡ below (length (inputs_into n (pipes ++ p ∷ [])))
+numbered_more n pipes p so_far next = by (is_to n p) refl
+  where
+    by : (b : Bool) → is_to n p ≡ b → inputs_into n (pipes ++ p ∷ []) ≡ below (length (inputs_into n (pipes ++ p ∷ [])))
+    by true to =
+        let is : inputs_into n (pipes ++ p ∷ []) ≡ inputs_into n pipes ++ p.recv_port ∷ [] = inputs-more n pipes p ∙ ap (λ b. inputs_into n pipes ++ cond b (p.recv_port ∷ []) []) to in
+        let count = length-more (inputs_into n pipes) p.recv_port in
+        let long : suc (length (inputs_into n pipes)) ≡ length (inputs_into n (pipes ++ p ∷ [])) = omega (arith, count, ap length is) in
+        let place = next to in
+        let all : inputs_into n pipes ++ p.recv_port ∷ [] ≡ below (suc (length (inputs_into n pipes))) = (λ i. so_far i ++ place i ∷ []) in
+        is ∙ all ∙ ap below long
+    by false other =
+        let is : inputs_into n (pipes ++ p ∷ []) ≡ inputs_into n pipes = inputs-more n pipes p ∙ ap (λ b. inputs_into n pipes ++ cond b (p.recv_port ∷ []) []) other ∙ append_nil (inputs_into n pipes) in
+        is ∙ so_far ∙ ap (λ l. below (length l)) (sym is)
 
 contains_more : {A : Type 0} (xs : List A) (x y : A) → Contains (xs ++ x ∷ []) y → Contains xs y ⊎ (x ≡ y)
 contains_more [] x y c = elim (contains_cases x y [] c) [ inl e ↦ inr e | inr d ↦ absurd (none_in_nil y d) ]
@@ -99,11 +132,12 @@ raised b c g h l =
       inputs = l.inputs;
       outputs = l.outputs;
       inside = λ p d. let i = l.inside p d in let up = i.2 in (i.0, i.1, omega (arith, up, h));
+      numbered = l.numbered;
     }
 
 module _ {N : Type 0} (g g' : Graph N) (linked : IsLinkedUpTo (length g.nodes.slots + 1) g) (s r : GraphNodeKey) (port input : ℕ) (key : LogicalPipeKey) (node : GraphNode N) (lower : s.0 < length g.nodes.slots)
     (next_node : r.0 ≡ length g.nodes.slots) (few : length g'.pipes.slots < 2 ^ 32) (key_is : key.0 ≡ length g.pipes.slots) (pipes : g'.pipes.slots ≡ g.pipes.slots ++ Some (fresh_pipe s r port input) ∷ [])
-    (stood : value_at g.nodes.slots s.0 ≡ Some node) (named : WithOutput node s.0 key g.nodes.slots g'.nodes.slots) where
+    (stood : value_at g.nodes.slots s.0 ≡ Some node) (named : WithOutput node s.0 key g.nodes.slots g'.nodes.slots) (place : input ≡ length (inputs_into r.0 (values g.pipes.slots))) where
   values_now : values g'.pipes.slots ≡ values g.pipes.slots ++ fresh_pipe s r port input ∷ []
   values_now = ap values pipes ∙ values-more g.pipes.slots (fresh_pipe s r port input)
 
@@ -177,22 +211,9 @@ module _ {N : Type 0} (g g' : Graph N) (linked : IsLinkedUpTo (length g.nodes.sl
               let r_is : r.0 ≡ p.receiver.0 = ap (λ (z : LogicalPipe). z.receiver.0) is in
               (omega (arith, s_is, lower, count_now), omega (arith, s_is, r_is, lower, next_node), omega (arith, r_is, next_node, count_now))
         ];
-      }
-
-  -- one pipe more of those of the next node
-  pub pipes_more : (g0 : Graph N) (sources : List (GraphNodeKey × ℕ)) (names : List LogicalPipeKey) → WithPipes g0 g (fresh_wires r.0 0 sources) names → input ≡ length sources
-      → WithPipes g0 g' (fresh_wires r.0 0 (sources ++ (s, port) ∷ [])) (names ++ key ∷ [])
-  pipes_more g0 sources names so_far input_is =
-      let to : is_to (length g0.nodes.slots) (fresh_pipe s r port input) ≡ true = same_number r.0 (length g0.nodes.slots) (next_node ∙ so_far.count) in
-      record {
-        linked = linked_more;
-        nodes = nodes_same ∙ so_far.nodes;
-        origins = origins_same ∙ so_far.origins;
-        count = count_now ∙ so_far.count;
-        wires = ap (map wire_of) values_now ∙ map-append wire_of (values g.pipes.slots) (fresh_pipe s r port input ∷ []) ∙ ap (λ l. l ++ fresh_wire r.0 input (s, port) ∷ []) so_far.wires
-            ∙ append_one (wires_of g0.pipes.slots) (fresh_wires r.0 0 sources) (fresh_wire r.0 input (s, port))
-            ∙ ap (λ l. wires_of g0.pipes.slots ++ l) (ap (λ n. fresh_wires r.0 0 sources ++ fresh_wire r.0 n (s, port) ∷ []) (let e : input ≡ 0 + length sources = omega (arith, input_is) in e) ∙ sym (fresh-more r.0 0 sources (s, port)));
-        keys = map-append (λ (k : LogicalPipeKey). k.0) names (key ∷ []) ∙ ap (λ l. l ++ key.0 ∷ []) so_far.keys ∙ one_place (is_to (length g0.nodes.slots)) to;
+        numbered = λ n.
+            let P : List LogicalPipe → Type 0 = λ l. inputs_into n l ≡ below (length (inputs_into n l)) in
+            subst P (sym values_now) (numbered_more n (values g.pipes.slots) (fresh_pipe s r port input) (linked.numbered n) (λ to. place ∙ ap (λ k. length (inputs_into k (values g.pipes.slots))) (is_number r.0 n to)));
       }
 
 module _ {N : Type 0} (g : Graph N) (linked : IsLinked g) where
@@ -233,6 +254,9 @@ module _ {N : Type 0} (g0 g g' : Graph N) (fresh : List Wire) (keys : List Logic
               ∙ sym (no_places 0 (is_from n) (values g.pipes.slots) (λ p c. other_number p.sender.0 n (λ d. let i = (added.linked.inside p c).0 in absurd (omega (arith, i, d, is))))) ∙ ap (λ l. places_from 0 (is_from n) (values l)) (sym pipes)
         ];
         inside = λ p c. let i = added.linked.inside p (subst (λ l. Contains (values l) p) pipes c) in let a = i.0 in let b = i.2 in (omega (arith, a, long), i.1, omega (arith, b, long));
+        numbered = λ n.
+            let P : List (Option LogicalPipe) → Type 0 = λ l. inputs_into n (values l) ≡ below (length (inputs_into n (values l))) in
+            subst P (sym pipes) (added.linked.numbered n);
       }
 
   values_next : values g'.nodes.slots ≡ values g.nodes.slots ++ node ∷ []
@@ -258,6 +282,9 @@ empty_linked g no_nodes no_pipe =
       inputs = λ n x e. absurd (let clash : None ≡ Some x = ap (λ l. value_at l n) (sym no_nodes) ∙ e in cc);
       outputs = λ n x e. absurd (let clash : None ≡ Some x = ap (λ l. value_at l n) (sym no_nodes) ∙ e in cc);
       inside = λ p c. absurd (none_in_nil p (subst (λ l. Contains (values l) p) no_pipe c));
+      numbered = λ n.
+          let P : List (Option LogicalPipe) → Type 0 = λ l. inputs_into n (values l) ≡ below (length (inputs_into n (values l))) in
+          subst P (sym no_pipe) refl;
     }
 
 -- a node with a number below the count stands
@@ -294,6 +321,12 @@ pipes_next g0 g g' s r port input key sources names was so_far r_is input_is key
       keys = map-append (λ (k : LogicalPipeKey). k.0) names (key ∷ []) ∙ ap (λ l. l ++ key.0 ∷ []) so_far.keys ∙ ap (λ n. places_from 0 test (values g.pipes.slots) ++ n ∷ []) number
           ∙ sym (ap (places_from 0 test) now ∙ places-more 0 test (values g.pipes.slots) p ∙ ap (λ b. places_from 0 test (values g.pipes.slots) ++ cond b ((0 + length (values g.pipes.slots)) ∷ []) []) to);
     }
+
+-- the next input is as many as there are keys so far
+pub next_input : {N : Type 0} (g0 g : Graph N) (fresh : List Wire) (names : List LogicalPipeKey) (r input : ℕ) → WithPipes g0 g fresh names → r ≡ length g0.nodes.slots → length names ≡ input → input ≡ length (inputs_into r (values g.pipes.slots))
+next_input g0 g fresh names r input so_far r_is long =
+    sym long ∙ sym (length_map (λ (k : LogicalPipeKey). k.0) names) ∙ ap length so_far.keys ∙ length_places 0 (is_to (length g0.nodes.slots)) (values g.pipes.slots)
+    ∙ sym (length_map (λ (p : LogicalPipe). p.recv_port) (kept (is_to (length g0.nodes.slots)) (values g.pipes.slots))) ∙ ap (λ k. length (inputs_into k (values g.pipes.slots))) (sym r_is)
 
 fresh_long : (r k : ℕ) (xs : List (GraphNodeKey × ℕ)) → length (fresh_wires r k xs) ≡ length xs
 fresh_long r k [] = refl

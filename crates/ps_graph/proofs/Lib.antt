@@ -10,3 +10,9 @@ pub mod Failing
 pub mod Sweeping
 pub mod MarkLemmas
 pub mod Growing
+pub mod Ordering
+pub mod Completing
+pub mod Feeding
+pub mod Passing
+pub mod Choosing
+pub mod Scanning

@@ -1,6 +1,7 @@
 -- A graph after one update of one node: it is linked and wired as before, and stands as that update left it.
 use Rattle.std.proofs.Common.{◌≡◌, ℕ, suc, zero, ◌+◌, ◌<◌, ◌^◌, ◌⊎◌, Bool, true, false, cond, List, [], ◌∷◌, length, Option, Some, None, refl, sym, ap, subst, ◌∙◌, inl, inr}
 use Rattle.std.specs.Prelude.{IsTrue, map, nat_eq, slice_get, slice_set}
+use Rattle.std.specs.List.{filter as kept}
 use Rattle.std.proofs.lemmas.Bool.{cases_eq}
 use Rattle.keyed_slots.specs.Slots.{value_at}
 use Rattle.ps_frame.specs.Zip.{below}
@@ -9,13 +10,13 @@ use Rattle.ps_ports.specs.Wires.{IsWired, Wire, given_to, wires_in, wires_out, w
 use Rattle.ps_settle.specs.Standings.{updated}
 use Rattle.ps_settle.specs.Sweeps.{answered}
 use Rattle.ps_settle.proofs.Ends.{alike_in, alike_out, answered-joins, joins, wires_in-map, wires_out-map}
-use Rattle.ps_settle.proofs.Members.{at_map, contains_at, length_map, map_at, place_of}
+use Rattle.ps_settle.proofs.Members.{at_map, contains_at, kept-map, length_map, map_at, map_twice, place_of}
 use Rattle.ps_settle.proofs.Passes.{length_set}
 use Rattle.ps_graph.specs.declared.graph.Graph.{Graph}
 use Rattle.ps_graph.specs.declared.graph.GraphNode.{GraphNode}
 use Rattle.ps_graph.specs.declared.graph.LogicalPipe.{LogicalPipe}
 use Rattle.ps_graph.specs.Linked.{AreKeysOf, JoinAlike, joined}
-use Rattle.ps_graph.specs.Shown.{CanRun, are_there, nodes_of, numbers, places_from, standing_of, values, wires_of}
+use Rattle.ps_graph.specs.Shown.{CanRun, IsLinked, are_there, inputs_into, is_to, nodes_of, numbers, places_from, standing_of, values, wires_of}
 use Rattle.ps_graph.specs.Turning.{origins_of}
 use Rattle.ps_graph.proofs.Places.{value_there}
 use Rattle.ps_graph.proofs.Telling.{value_other, value_set}
@@ -48,6 +49,37 @@ places_map f test k (x ∷ xs) = ap (λ l. cond (test (f x)) (k ∷ l) l) (place
 -- pipes that join alike have the same places
 places_alike : (old new : List (Option LogicalPipe)) → JoinAlike old new → (test : ℕ × ℕ × ℕ × ℕ → Bool) → places_from 0 (λ p. test (joined p)) (values old) ≡ places_from 0 (λ p. test (joined p)) (values new)
 places_alike old new same test = places_map joined test 0 (values old) ∙ ap (places_from 0 test) (sym same.alike) ∙ sym (places_map joined test 0 (values new))
+
+-- the inputs that pipes lead to, by what the pipes join
+inputs_joined : (n : ℕ) (pipes : List LogicalPipe) → inputs_into n pipes ≡ map (λ (j : ℕ × ℕ × ℕ × ℕ). j.3) (kept (λ (j : ℕ × ℕ × ℕ × ℕ). nat_eq j.2 n) (map joined pipes))
+inputs_joined n pipes = sym (ap (map (λ (j : ℕ × ℕ × ℕ × ℕ). j.3)) (kept-map (λ (j : ℕ × ℕ × ℕ × ℕ). nat_eq j.2 n) joined pipes) ∙ map_twice (λ (j : ℕ × ℕ × ℕ × ℕ). j.3) joined (kept (is_to n) pipes))
+
+-- A graph is linked if its pipes join what those of a linked one join, and each of its nodes names the pipes that one of that graph names.
+pub linked_alike : {N : Type 0} (g g' : Graph N) → IsLinked g → IsTrue (are_there g'.nodes.slots) → length g'.nodes.slots ≡ length g.nodes.slots → JoinAlike g.pipes.slots g'.pipes.slots
+    → ((n : ℕ) (x : GraphNode N) → value_at g'.nodes.slots n ≡ Some x → (y : GraphNode N) × (value_at g.nodes.slots n ≡ Some y) × (x.inputs ≡ y.inputs) × (x.outputs ≡ y.outputs)) → IsLinked g'
+linked_alike g g' linked there long same was =
+    record {
+      nodes_there = there;
+      pipes_there = same.there;
+      few_nodes = subst (λ k. k < 2 ^ 32) (sym long) linked.few_nodes;
+      few_pipes = subst (λ k. k < 2 ^ 32) (sym same.long) linked.few_pipes;
+      inputs = λ n x e.
+          let y = was n x e in
+          ap (λ z. numbers z.items) y.2 ∙ linked.inputs n y.0 y.1 ∙ places_alike g.pipes.slots g'.pipes.slots same (λ j. nat_eq j.2 n);
+      outputs = λ n x e.
+          let y = was n x e in
+          ap (λ z. numbers z.items) y.3 ∙ linked.outputs n y.0 y.1 ∙ places_alike g.pipes.slots g'.pipes.slots same (λ j. nat_eq j.0 n);
+      inside = λ p c.
+          let i = place_of (values g'.pipes.slots) p c in
+          let there = ap (λ l. slice_get l i.0) (sym same.alike) ∙ map_at joined (values g'.pipes.slots) i.0 p i.1 in
+          let q = at_map joined (values g.pipes.slots) i.0 (joined p) there in
+          let P : ℕ → ℕ × ℕ × ℕ × ℕ → Type 0 = λ k j. (j.0 < k) × (j.0 < j.2) × (j.2 < k) in
+          subst (λ k. P k (joined p)) (sym long) (subst (P (length g.nodes.slots)) q.2 (linked.inside q.0 (contains_at (values g.pipes.slots) i.0 q.0 q.1)));
+      numbered = λ n.
+          let alike : inputs_into n (values g'.pipes.slots) ≡ inputs_into n (values g.pipes.slots) =
+          inputs_joined n (values g'.pipes.slots) ∙ ap (λ l. map (λ (j : ℕ × ℕ × ℕ × ℕ). j.3) (kept (λ (j : ℕ × ℕ × ℕ × ℕ). nat_eq j.2 n) l)) same.alike ∙ sym (inputs_joined n (values g.pipes.slots)) in
+          alike ∙ linked.numbered n ∙ ap (λ l. below (length l)) (sym alike);
+    }
 
 pub there_set : {A : Type 0} (slots : List (Option A)) (k : ℕ) (x : A) → IsTrue (are_there slots) → IsTrue (are_there (slice_set slots k (Some x)))
 there_set [] k x e = refl
@@ -134,25 +166,9 @@ module _ {N : Type 0} (HasPorts : N → ℕ → ℕ → Type 0) (g : Graph N) (c
     pub can_next : ((i o : ℕ) → HasPorts node.compute i o → HasPorts after i o) → CanRun HasPorts g'
     can_next stay =
         record {
-          linked = record {
-            nodes_there = subst (λ l. IsTrue (are_there l)) (sym next) (there_set g.nodes.slots v (record node { compute = after }) can.linked.nodes_there);
-            pipes_there = same.there;
-            few_nodes = let few = can.linked.few_nodes in let long = ap length next ∙ length_set g.nodes.slots v (Some (record node { compute = after })) in subst (λ k. k < 2 ^ 32) (sym long) few;
-            few_pipes = subst (λ k. k < 2 ^ 32) (sym same.long) can.linked.few_pipes;
-            inputs = λ n x e.
-                let y = was n x e in
-                ap (λ z. numbers z.items) y.2 ∙ can.linked.inputs n y.0 y.1 ∙ places_alike g.pipes.slots g'.pipes.slots same (λ j. nat_eq j.2 n);
-            outputs = λ n x e.
-                let y = was n x e in
-                ap (λ z. numbers z.items) y.3 ∙ can.linked.outputs n y.0 y.1 ∙ places_alike g.pipes.slots g'.pipes.slots same (λ j. nat_eq j.0 n);
-            inside = λ p c.
-                let i = place_of (values g'.pipes.slots) p c in
-                let there = ap (λ l. slice_get l i.0) (sym same.alike) ∙ map_at joined (values g'.pipes.slots) i.0 p i.1 in
-                let q = at_map joined (values g.pipes.slots) i.0 (joined p) there in
-                let long : length g.nodes.slots ≡ length g'.nodes.slots = sym (ap length next ∙ length_set g.nodes.slots v (Some (record node { compute = after }))) in
-                let P : ℕ → ℕ × ℕ × ℕ × ℕ → Type 0 = λ k j. (j.0 < k) × (j.0 < j.2) × (j.2 < k) in
-                subst (λ k. P k (joined p)) long (subst (P (length g.nodes.slots)) q.2 (can.linked.inside q.0 (contains_at (values g.pipes.slots) i.0 q.0 q.1)));
-          };
+          linked =
+              linked_alike g g' can.linked (subst (λ l. IsTrue (are_there l)) (sym next) (there_set g.nodes.slots v (record node { compute = after }) can.linked.nodes_there))
+              (ap length next ∙ length_set g.nodes.slots v (Some (record node { compute = after }))) same (λ n x e. let y = was n x e in (y.0, y.1, y.2, y.3));
           wired = wired_next;
           ports = λ n x e.
               let y = was n x e in

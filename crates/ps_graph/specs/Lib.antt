@@ -5,3 +5,5 @@ pub mod Ends
 pub mod Origins
 pub mod Turning
 pub mod Adding
+pub mod Complete
+pub mod Running

@@ -1,7 +1,8 @@
 -- What a graph shows: its nodes and its wires, in the order in which they were added, and how nodes name their pipes.
 use Rattle.std.specs.Prelude.{◌≡◌, ℕ, ◌+◌, ◌<◌, ◌^◌, Bool, cond, List, [], ◌∷◌, Option, Some, None, is_some, map, length, nat_eq, Contains, IsTrue}
-use Rattle.std.specs.List.{list_all}
+use Rattle.std.specs.List.{filter as kept, list_all}
 use Rattle.keyed_slots.specs.Slots.{value_at}
+use Rattle.ps_frame.specs.Zip.{below}
 use Rattle.ps_ports.specs.Wires.{IsWired, Wire, wires_in, wires_out}
 use Rattle.ps_settle.specs.Standings.{Standing}
 use Rattle.ps_graph.specs.declared.graph.Graph.{Graph}
@@ -35,6 +36,10 @@ is_to n p = nat_eq p.receiver.0 n
 abbrev pub is_from : ℕ → LogicalPipe → Bool
 is_from n p = nat_eq p.sender.0 n
 
+-- the inputs of a node that pipes lead to, in the order in which the pipes were added
+abbrev pub inputs_into : ℕ → List LogicalPipe → List ℕ
+inputs_into n pipes = map (λ (p : LogicalPipe). p.recv_port) (kept (is_to n) pipes)
+
 abbrev pub wires_of : List (Option LogicalPipe) → List Wire
 wires_of slots = map wire_of (values slots)
 
@@ -45,7 +50,7 @@ module _ {N : Type 0} where
   abbrev pub standing_of : Graph N → Standing N
   standing_of g = record { nodes = nodes_of g.nodes.slots; wires = wires_of g.pipes.slots }
 
-  -- Nothing was removed, each node names the pipes into it and out of it, in the order in which they were added, and each pipe leads from a node to a later one below the bound.
+  -- Nothing was removed, each node names the pipes into it and out of it, in the order in which they were added, each pipe leads from a node to a later one below the bound, and the pipes into a node lead to its inputs from 0 on.
   pub record IsLinkedUpTo (bound : ℕ) (g : Graph N) : Type 0 where
     pub nodes_there : IsTrue (are_there g.nodes.slots)
     pub pipes_there : IsTrue (are_there g.pipes.slots)
@@ -54,6 +59,7 @@ module _ {N : Type 0} where
     pub inputs : (n : ℕ) (node : GraphNode N) → value_at g.nodes.slots n ≡ Some node → numbers node.inputs.items ≡ places_from 0 (is_to n) (values g.pipes.slots)
     pub outputs : (n : ℕ) (node : GraphNode N) → value_at g.nodes.slots n ≡ Some node → numbers node.outputs.items ≡ places_from 0 (is_from n) (values g.pipes.slots)
     pub inside : (p : LogicalPipe) → Contains (values g.pipes.slots) p → (p.sender.0 < length g.nodes.slots) × (p.sender.0 < p.receiver.0) × (p.receiver.0 < bound)
+    pub numbered : (n : ℕ) → inputs_into n (values g.pipes.slots) ≡ below (length (inputs_into n (values g.pipes.slots)))
 
   -- each pipe leads from a node to a later one
   abbrev pub IsLinked : Graph N → Type 0

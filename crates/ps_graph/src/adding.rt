@@ -3,7 +3,7 @@ ghost use Rattle.std.specs.Prelude.{◌≡◌, ◌≤◌, ◌<◌, ◌+◌, ◌-
 ghost use Rattle.keyed_slots.specs.Slots.{value_at};
 ghost use Rattle.ps_frame.specs.declared.refusal.PolarsError.{PolarsError};
 ghost use Rattle.ps_graph.specs.Adding.{WithOutput, WithPipes, fresh_pipe, fresh_wire, fresh_wires};
-ghost use Rattle.ps_graph.specs.Shown.{IsLinked, IsLinkedUpTo, nodes_of, wires_of};
+ghost use Rattle.ps_graph.specs.Shown.{IsLinked, IsLinkedUpTo, inputs_into, nodes_of, values, wires_of};
 ghost use Rattle.ps_graph.specs.Turning.{origins_of};
 
 use crate::graph::{Graph, GraphNode, LogicalPipe};
@@ -56,6 +56,7 @@ impl<N: Drop> Graph<N> {
         requires linked { IsLinkedUpTo (length self.old.nodes.slots + 1) self.old }
         requires sender { sender.0 < length self.old.nodes.slots }
         requires receiver { receiver.0 ≡ length self.old.nodes.slots }
+        requires input { input ≡ length (inputs_into receiver.0 (values self.old.pipes.slots)) }
         requires room { length self.old.pipes.slots < 2 ^ 32 - 1 }
         ensures key { IfOk result (λ k. k.0 ≡ length self.old.pipes.slots) }
         ensures pipes { OnOk result (self.new.pipes.slots ≡ self.old.pipes.slots ++ Some (fresh_pipe sender receiver port input) ∷ []) }

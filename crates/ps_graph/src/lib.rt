@@ -2,12 +2,15 @@
 #![tactic(auto)]
 
 pub mod adding;
+pub mod complete;
 pub mod compute_node;
 pub mod end;
 mod ends;
+pub mod examples;
 pub mod graph;
 pub mod key;
 pub mod marks;
 mod origins;
+pub mod phase;
 mod turns;
 pub mod update;

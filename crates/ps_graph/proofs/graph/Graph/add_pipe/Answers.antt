@@ -10,7 +10,7 @@ returns-clause-linked g c =
     let long : length c.insert.new.self.slots ≡ length c.args.self.now.pipes.slots + 1 = pipes_count c.args.self.now.pipes.slots c.insert.new.self.slots _ c.in_ok-pipe.ensures.added in
     let room = c.requires.room in
     linked_more c.args.self.now (record { nodes = c.add_output.new.nodes; pipes = c.insert.new.self }) c.requires.linked c.args.sender c.args.receiver c.args.port c.args.input c.in_ok-pipe.pipe sender.0 c.requires.sender c.requires.receiver (omega (arith, long, room))
-    c.in_ok-pipe.ensures.key c.in_ok-pipe.ensures.added sender.1 named
+    c.in_ok-pipe.ensures.key c.in_ok-pipe.ensures.added sender.1 named c.requires.input
 
 pub returns-clause-nodes : goal.returns-clause-nodes
 returns-clause-nodes g c =
@@ -19,7 +19,7 @@ returns-clause-nodes g c =
     let long : length c.insert.new.self.slots ≡ length c.args.self.now.pipes.slots + 1 = pipes_count c.args.self.now.pipes.slots c.insert.new.self.slots _ c.in_ok-pipe.ensures.added in
     let room = c.requires.room in
     nodes_same c.args.self.now (record { nodes = c.add_output.new.nodes; pipes = c.insert.new.self }) c.requires.linked c.args.sender c.args.receiver c.args.port c.args.input c.in_ok-pipe.pipe sender.0 c.requires.sender c.requires.receiver (omega (arith, long, room))
-    c.in_ok-pipe.ensures.key c.in_ok-pipe.ensures.added sender.1 named
+    c.in_ok-pipe.ensures.key c.in_ok-pipe.ensures.added sender.1 named c.requires.input
 
 pub returns-clause-origins : goal.returns-clause-origins
 returns-clause-origins g c =
@@ -28,4 +28,4 @@ returns-clause-origins g c =
     let long : length c.insert.new.self.slots ≡ length c.args.self.now.pipes.slots + 1 = pipes_count c.args.self.now.pipes.slots c.insert.new.self.slots _ c.in_ok-pipe.ensures.added in
     let room = c.requires.room in
     origins_same c.args.self.now (record { nodes = c.add_output.new.nodes; pipes = c.insert.new.self }) c.requires.linked c.args.sender c.args.receiver c.args.port c.args.input c.in_ok-pipe.pipe sender.0 c.requires.sender c.requires.receiver (omega (arith, long, room))
-    c.in_ok-pipe.ensures.key c.in_ok-pipe.ensures.added sender.1 named
+    c.in_ok-pipe.ensures.key c.in_ok-pipe.ensures.added sender.1 named c.requires.input
