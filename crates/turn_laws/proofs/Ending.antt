@@ -9,7 +9,7 @@ use Rattle.ps_meaning.specs.Sound.{HasFitParameters}
 use Rattle.ps_options.specs.declared.options.Options.{Options}
 use Rattle.ps_ports.specs.Ports.{Sides}
 use Rattle.ps_turns.specs.Ends.{rows_at_end}
-use Rattle.ps_turns.specs.Heads.{stored_rows}
+use Rattle.ps_turns.specs.Heads.{Head, stored_rows}
 use Rattle.ps_turns.specs.Progress.{Progress, giving, is_giving, is_user_map, makes_table}
 use Rattle.ps_turns.specs.Results.{IsBrokenOver, IsMade}
 use Rattle.ps_turns.specs.Tables.{whole_tables}
@@ -113,7 +113,7 @@ module _ (F : Functions) (o : Options) (a : SeenNode) (given : Sides) where
           ]
 
       -- a zip waits for nothing
-      no_zip : (kind : PhysicalKind) (hs hs' : List Rattle.ps_turns.specs.Heads.Head) → is_user_map kind ≡ true → shape_fault a.node kind hs given ≡ None
+      no_zip : (kind : PhysicalKind) (hs hs' : List Head) → is_user_map kind ≡ true → shape_fault a.node kind hs given ≡ None
       no_zip (in_memory_map step) hs hs' e = refl
       no_zip kind hs hs' e = absurd (let no : false ≡ true = e in cc)
 

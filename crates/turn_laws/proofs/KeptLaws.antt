@@ -7,7 +7,7 @@ use Rattle.ps_ports.specs.Ports.{Sides, keeping_done}
 use Rattle.ps_ports.specs.UpdateLaws.{AgreeApartFromDone, KeepsUpdateLaws, StayDone}
 use Rattle.ps_turns.specs.Progress.{Progress, giving, taking}
 use Rattle.ps_turns.specs.Updates.{answer_by, is_waiting, stage_after}
-use Rattle.turn_laws.specs.Updating.{FilledTo, FillsAndUpdates, SeenNode, UpdatesTo, heads_seen, stages_before, stages_behind}
+use Rattle.turn_laws.specs.Updating.{FilledTo, FillsAndUpdates, SeenNode, UpdatesTo, heads_given, heads_seen, stages_before, stages_behind}
 use Rattle.turn_laws.proofs.Kept.{kept_agree, kept_long, kept_stays}
 use Rattle.turn_laws.proofs.Long.{has_states}
 use Rattle.turn_laws.proofs.Sends.{same_answer, same_sends}
@@ -73,7 +73,7 @@ module _ (F : Functions) (o : Options) where
         subst (λ x. P x answer') (sym u.answers) (subst (P (keeping_done given raw)) (sym other_answer) kept)
 
     same_seen : heads_seen a' given ≡ heads_seen a given
-    same_seen = (λ i. Rattle.turn_laws.specs.Updating.heads_given (alike.others i).node.kind a'.progress given) ∙ same_heads a.node.kind a.progress a'.progress given alike.behind
+    same_seen = (λ i. heads_given (alike.others i).node.kind a'.progress given) ∙ same_heads a.node.kind a.progress a'.progress given alike.behind
 
     pub same_answers : given ≡ given' → answer ≡ answer'
     same_answers same =

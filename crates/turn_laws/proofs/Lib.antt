@@ -5,3 +5,4 @@ pub mod Turned
 pub mod KeptLaws
 pub mod Making
 pub mod Ending
+pub mod OwnLaws
