@@ -1,0 +1,3 @@
+mod Turning
+mod Updated
+mod Stores

@@ -1,2 +1,5 @@
 pub mod Exprs
 pub mod Reductions
+pub mod Kept
+pub mod Seen
+pub mod FlowLaws

@@ -1,10 +1,25 @@
-// What the nodes of a running query share: how it is run, morsels and their numbers, expressions, and what becomes of a column's values.
+// The nodes of a running query: how it is run, morsels and their numbers, expressions, and the nodes of its graph, one file each.
 #![tactic(auto)]
 
+pub mod equi_join;
 pub mod examples;
+pub mod filter;
+pub mod flow;
+pub mod independent_select;
+pub mod map;
 pub mod morsel;
+pub mod multiplexer;
+pub mod ordered_union;
+pub mod projection;
+pub mod reduce;
 pub mod reduction;
+pub mod row_index;
+pub mod select;
 pub mod sequence;
+pub mod sink;
+pub mod slice;
+pub mod source;
 pub mod stream_expr;
+pub mod zip;
 
 pub use ps_options::options;

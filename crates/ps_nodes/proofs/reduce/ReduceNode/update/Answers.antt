@@ -1,0 +1,26 @@
+-- It turns by its stage alone, and answers by its stage after the turn.
+use Rattle.std.proofs.Common.{[], refl}
+use Rattle.node_states.specs.Stages.{stage_of}
+use Rattle.node_states.specs.Views.{sides_of}
+use Rattle.ps_nodes.proofs.Turning.{turns_plainly}
+use Rattle.ps_nodes.specs.Seen.{any_options, no_functions, progress_of, seen, view_of}
+use Rattle.ps_nodes.specs.declared.flow.FlowNode.TheVariants as flow
+use Rattle.ps_nodes.proofs.reduce.ReduceNode.update.Goals as goal
+
+pub returns : goal.returns
+returns c =
+    let a = flow.Reduce c.args.self.now in
+    let b = flow.Reduce (record c.args.self.now { stage = c.next_stage-stage.result }) in
+    let given = sides_of c.args.recv.now c.args.send.now in
+    let stage = c.next_stage-stage.ensures (view_of a given) (record { kind = refl; stage = refl; gave = refl; filled = refl }) in
+    record {
+      update = record {
+        ports = (c.requires.input, c.requires.output);
+        agrees = refl;
+        turns = turns_plainly no_functions any_options (seen a).node [] given (progress_of a) refl (stage_of c.next_stage-stage.result) stage;
+        others = refl;
+        answers = c.answer.ensures (view_of b given) refl refl;
+      };
+      options = refl;
+      ports = λ i o p. p;
+    }

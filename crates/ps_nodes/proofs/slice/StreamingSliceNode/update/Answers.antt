@@ -1,0 +1,13 @@
+-- It stays in its stage, and answers by its row.
+use Rattle.std.proofs.Common.{refl}
+use Rattle.node_states.specs.Views.{sides_of}
+use Rattle.ps_nodes.proofs.Updated.{stays_update}
+use Rattle.ps_nodes.specs.Seen.{view_of}
+use Rattle.ps_nodes.specs.declared.flow.FlowNode.TheVariants as flow
+use Rattle.ps_nodes.proofs.slice.StreamingSliceNode.update.Goals as goal
+
+pub returns : goal.returns
+returns c =
+    let a = flow.StreamingSlice c.args.self.now in
+    let given = sides_of c.args.recv.now c.args.send.now in
+    stays_update a given _ c.requires.input c.requires.output refl refl refl (c.answer.ensures (view_of a given) (record { kind = refl; booked = refl }))

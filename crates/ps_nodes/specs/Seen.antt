@@ -1,0 +1,139 @@
+-- What updates see of the nodes of a graph, and what they make of them.
+use Rattle.std.specs.Prelude.{◌≡◌, ℕ, ◌-◌, ◌^◌, ◌≤◌, Bool, false, List, [], ◌∷◌, Option, Some, None, length, map, replicate}
+use Rattle.std.proofs.Common.{lit≤}
+use Rattle.std.specs.declared.alloc.Global.{Global}
+use Rattle.std.specs.declared.vec.Vec.{Vec}
+use Rattle.node_states.specs.Stages.{stage_of}
+use Rattle.node_states.specs.Views.{NodeView}
+use Rattle.ps_frame.specs.Causes.{Cause}
+use Rattle.ps_frame.specs.Functions.{Functions}
+use Rattle.ps_frame.specs.Tables.{Row}
+use Rattle.ps_frame.specs.declared.refusal.PolarsError.{PolarsError}
+use Rattle.ps_meaning.specs.Errors.{cause_error}
+use Rattle.ps_meaning.specs.Schemas.{names_of}
+use Rattle.ps_meaning.specs.Shape.{PhysicalKind, equi_join, filter_node, in_memory_sink, in_memory_source, independent_select, multiplexer, ordered_union, reduce, select_node, simple_projection, stream_map, streaming_slice, with_row_index, zip_node}
+use Rattle.ps_meaning.specs.Sound.{HasInputs, HasReaders}
+use Rattle.ps_meaning.specs.Steps.{exprs_of, user}
+use Rattle.ps_nodes.specs.Exprs.{expr_shown}
+use Rattle.ps_nodes.specs.Reductions.{reduced}
+use Rattle.ps_nodes.specs.declared.flow.FlowNode.{FlowNode}
+use Rattle.ps_nodes.specs.declared.flow.FlowNode.TheVariants as flow
+use Rattle.ps_nodes.specs.declared.zip.ZipNode.{ZipNode}
+use Rattle.ps_options.specs.declared.options.Options.{Options}
+use Rattle.ps_ports.specs.Ports.{Sides}
+use Rattle.ps_turns.specs.Progress.{Progress, taking}
+use Rattle.ps_turns.specs.Updates.{shape_fault}
+use Rattle.turn_laws.specs.Updating.{SeenNode, UpdatesTo, heads_seen}
+
+-- the kind of a node, as shapes have it
+abbrev pub kind_of : FlowNode → PhysicalKind
+kind_of (flow.Filter n) = filter_node (expr_shown n.predicate).1
+kind_of (flow.Select n) = select_node (map expr_shown n.selectors.items) n.extend_original
+kind_of (flow.InputIndependentSelect n) = independent_select (map expr_shown n.selectors.items)
+kind_of (flow.SimpleProjection n) = simple_projection n.columns.items
+kind_of (flow.WithRowIndex n) = with_row_index n.name n.offset
+kind_of (flow.Map n) = stream_map (user n.function)
+kind_of (flow.StreamingSlice n) = streaming_slice n.state.offset n.state.length
+kind_of (flow.InMemorySource n) = in_memory_source n.source
+kind_of (flow.OrderedUnion n) = ordered_union
+kind_of (flow.Multiplexer n) = multiplexer
+kind_of (flow.InMemorySink n) = in_memory_sink
+kind_of (flow.Zip n) = zip_node n.null_extend
+kind_of (flow.Reduce n) = reduce (reduced (names_of n.output_schema) (map expr_shown n.selectors.items) n.reductions.items)
+kind_of (flow.EquiJoin n) = equi_join (record { left_on = exprs_of (map expr_shown n.left_on.items); right_on = exprs_of (map expr_shown n.right_on.items); args = n.args })
+
+-- nothing was given, booked or stored
+abbrev pub nothing_behind : Progress
+nothing_behind = record { stage = taking; sent = 0; booked = 0; stores = []; taken = []; made = None; lists = [] }
+
+-- a store of so many rows: no update reads more of one
+abbrev pub counted_store : ℕ → List (List Row)
+counted_store n = replicate n [] ∷ []
+
+-- what a node has behind it, as far as an update reads it
+abbrev pub progress_of : FlowNode → Progress
+progress_of (flow.InputIndependentSelect n) = record nothing_behind { sent = n.sent }
+progress_of (flow.WithRowIndex n) = record nothing_behind { booked = n.booked }
+progress_of (flow.StreamingSlice n) = record nothing_behind { booked = n.state.booked }
+progress_of (flow.InMemorySource n) = record nothing_behind { sent = n.sent }
+progress_of (flow.Zip n) = record nothing_behind { booked = n.booked; stores = map counted_store n.came.items }
+progress_of (flow.Reduce n) = record nothing_behind { stage = stage_of n.stage; sent = n.sent }
+progress_of (flow.EquiJoin n) = record nothing_behind { stage = stage_of n.stage; sent = n.sent }
+progress_of _ = nothing_behind
+
+-- which of the pipes that leave it are empty
+abbrev pub told_empties : Option (Vec Bool Global) → List Bool
+told_empties None = []
+told_empties (Some es) = es.items
+
+abbrev pub empties_of : FlowNode → List Bool
+empties_of (flow.Multiplexer n) = told_empties n.empties
+empties_of _ = []
+
+-- how its query is run: only a source holds it, and reads it
+abbrev pub any_options : Options
+any_options =
+    record {
+      workers = 1;
+      morsel_rows = 1;
+      partitions = 1;
+      seed = 0;
+      some_workers = lit≤ tt;
+      few_workers = lit≤ tt;
+      some_rows = lit≤ tt;
+      few_rows = lit≤ tt;
+      some_partitions = lit≤ tt;
+      few_partitions = lit≤ tt;
+    }
+
+abbrev pub options_of : FlowNode → Options
+options_of (flow.InMemorySource n) = n.options
+options_of _ = any_options
+
+-- where no node stands: what a node says of itself, since it doesn't know where it stands
+abbrev pub nowhere : ℕ
+nowhere = 2 ^ 64 - 1
+
+-- a node of a kind, with what it has behind it; where it stands, and the schemas of its inputs, aren't its own to know
+abbrev pub node_seen : PhysicalKind → Progress → List Bool → SeenNode
+node_seen kind progress empties = record { node = record { kind = kind; schema = []; origin = nowhere; inputs = [] }; schemas = []; empties = empties; progress = progress }
+
+abbrev pub seen : FlowNode → SeenNode
+seen n = node_seen (kind_of n) (progress_of n) (empties_of n)
+
+-- a node as its answer to what it is given reads it
+abbrev pub view_of : FlowNode → Sides → NodeView
+view_of n given = record { options = options_of n; kind = kind_of n; progress = progress_of n; heads = heads_seen (seen n) given; empties = empties_of n }
+
+-- a new node of a kind
+abbrev pub IsNew : PhysicalKind → FlowNode → Type 0
+IsNew kind n = seen n ≡ node_seen kind nothing_behind []
+
+-- a new zip of so many inputs
+pub record IsNewZip (extend : Bool) (inputs : ℕ) (n : ZipNode) : Type 0 where
+  pub extends : n.null_extend ≡ extend
+  pub booked : n.booked ≡ 0
+  pub came : n.came.items ≡ replicate inputs 0
+  pub heads : length n.heads.items ≡ inputs
+
+-- it has so many inputs: a zip as many as it has stores and heads
+abbrev pub HasInputsOf : FlowNode → ℕ → Type 0
+HasInputsOf (flow.Zip n) k = (1 ≤ k) × (length n.came.items ≡ k) × (length n.heads.items ≡ k)
+HasInputsOf n k = HasInputs (kind_of n) k
+
+abbrev pub HasPorts : FlowNode → (inputs outputs : ℕ) → Type 0
+HasPorts n inputs outputs = HasInputsOf n inputs × HasReaders (kind_of n) outputs
+
+-- these nodes call no functions that a user handed in
+abbrev pub no_functions : Functions
+no_functions = record { count = 0; streams = λ n. false; answer = λ n f. None; declared = λ n s. None }
+
+-- an update of a node as the definitions of a run have it
+pub record Updates (a : FlowNode) (given : Sides) (b : FlowNode) (answer : Sides) : Type 0 where
+  pub update : UpdatesTo no_functions (options_of a) (seen a) given (seen b) answer
+  pub options : options_of b ≡ options_of a
+  pub ports : (inputs outputs : ℕ) → HasPorts a inputs outputs → HasPorts b inputs outputs
+
+-- the errors of updates, at no node in particular
+abbrev pub Faults : FlowNode → Sides → PolarsError → Type 0
+Faults a given e = (c : Cause) × (shape_fault (seen a).node (kind_of a) (heads_seen (seen a) given) given ≡ Some c) × (e ≡ cause_error c)

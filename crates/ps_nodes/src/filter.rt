@@ -1,0 +1,22 @@
+//! The filter.
+ghost use Rattle.ps_nodes.specs.Exprs.{expr_shown};
+ghost use Rattle.ps_nodes.specs.Seen.{IsNew};
+ghost use Rattle.ps_nodes.specs.declared.flow.FlowNode.TheVariants as flow;
+ghost use Rattle.ps_meaning.specs.Shape.{filter_node};
+
+use crate::stream_expr::StreamExpr;
+
+/// Keeps the rows of which the predicate is true.
+#[derive(Drop)]
+pub struct FilterNode {
+    pub(crate) predicate: StreamExpr,
+}
+
+impl FilterNode {
+    /// The filter by this predicate.
+    pub fn new(predicate: StreamExpr) -> FilterNode
+        ensures { IsNew (filter_node (expr_shown predicate).1) (flow.Filter result) }
+    {
+        FilterNode { predicate }
+    }
+}

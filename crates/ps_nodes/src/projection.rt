@@ -1,0 +1,26 @@
+//! The projection.
+ghost use Rattle.ps_meaning.specs.Shape.{simple_projection};
+ghost use Rattle.ps_nodes.specs.Seen.{IsNew};
+ghost use Rattle.ps_nodes.specs.declared.flow.FlowNode.TheVariants as flow;
+
+use ps_frame::schema::Schema;
+use pu_base::PlSmallStr;
+
+/// Gives some columns of its input.
+#[derive(Drop)]
+pub struct SimpleProjectionNode {
+    pub(crate) columns: Vec<PlSmallStr>,
+    pub(crate) input_schema: Schema,
+}
+
+impl SimpleProjectionNode {
+    /// The projection on these columns of inputs with this schema.
+    pub fn new(columns: Vec<PlSmallStr>, input_schema: Schema) -> SimpleProjectionNode
+        ensures { IsNew (simple_projection columns.items) (flow.SimpleProjection result) }
+    {
+        SimpleProjectionNode {
+            columns,
+            input_schema,
+        }
+    }
+}

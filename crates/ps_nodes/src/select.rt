@@ -1,0 +1,30 @@
+//! Selects.
+ghost use Rattle.std.specs.Prelude.{map};
+ghost use Rattle.ps_nodes.specs.Exprs.{expr_shown};
+ghost use Rattle.ps_nodes.specs.Seen.{IsNew};
+ghost use Rattle.ps_nodes.specs.declared.flow.FlowNode.TheVariants as flow;
+ghost use Rattle.ps_meaning.specs.Shape.{select_node};
+
+use crate::stream_expr::StreamExpr;
+use ps_frame::schema::Schema;
+
+/// Gives columns of expressions, alone or put beside those of its input.
+#[derive(Drop)]
+pub struct SelectNode {
+    pub(crate) selectors: Vec<StreamExpr>,
+    pub(crate) schema: Schema,
+    pub(crate) extend_original: bool,
+}
+
+impl SelectNode {
+    /// The select of these expressions, whose output has this schema.
+    pub fn new(selectors: Vec<StreamExpr>, schema: Schema, extend_original: bool) -> SelectNode
+        ensures { IsNew (select_node (map expr_shown selectors.items) extend_original) (flow.Select result) }
+    {
+        SelectNode {
+            selectors,
+            schema,
+            extend_original,
+        }
+    }
+}

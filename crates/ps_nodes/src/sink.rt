@@ -1,0 +1,79 @@
+//! The sink.
+ghost use Rattle.std.specs.Prelude.{◌≡◌, ◌++◌, [], IfOk, OnOk, length};
+ghost use Rattle.node_states.specs.Views.{sides_of};
+ghost use Rattle.ps_meaning.specs.Shape.{in_memory_sink};
+ghost use Rattle.ps_nodes.specs.Seen.{IsNew, Updates};
+ghost use Rattle.ps_nodes.specs.Kept.{rows_kept};
+ghost use Rattle.ps_nodes.specs.declared.flow.FlowNode.TheVariants as flow;
+
+use node_states::sink;
+use ps_frame::error::FrameError;
+use ps_frame::frame::DataFrame;
+use ps_frame::frame_builder::FrameBuilder;
+use ps_frame::schema::Schema;
+use ps_ports::port_state::PortState;
+use std::alloc::Global;
+
+/// Keeps all of its input, as the answer of its graph.
+#[derive(Drop)]
+pub struct InMemorySinkNode {
+    pub(crate) schema: Schema,
+    pub(crate) kept: Option<FrameBuilder>,
+}
+
+/// The rows of a table behind those that were kept before.
+fn with_rows(
+    alloc: Global,
+    schema: &Schema,
+    kept: Option<FrameBuilder>,
+    df: &DataFrame,
+) -> Result<FrameBuilder, FrameError>
+    ensures { IfOk result (λ b. b.rows ≡ rows_kept kept ++ df.now.rows) }
+{
+    let builder = match kept {
+        Some(builder) => builder,
+        None => FrameBuilder::new(alloc, schema)?,
+    };
+    builder.with_table(alloc, df)
+}
+
+impl InMemorySinkNode {
+    /// The sink of rows with this schema.
+    pub fn new(schema: Schema) -> InMemorySinkNode
+        ensures { IsNew in_memory_sink (flow.InMemorySink result) }
+    {
+        InMemorySinkNode { schema, kept: None }
+    }
+
+    /// Keeps the rows of a table behind those that it kept before. Where that fails it keeps none.
+    ///
+    /// Fails where the table has another schema, where there are more rows than `u32::MAX`, or for want of memory.
+    pub fn store(&mut self, alloc: Global, df: &DataFrame) -> Result<(), FrameError>
+        ensures { OnOk result (rows_kept self.new.kept ≡ rows_kept self.old.kept ++ df.now.rows) }
+    {
+        let kept = self.kept.take();
+        let builder = with_rows(alloc, &self.schema, kept, df)?;
+        self.kept = Some(builder);
+        Ok(())
+    }
+
+    /// The rows that it kept, as a table; it then keeps none.
+    ///
+    /// Fails only for want of memory.
+    pub fn output(&mut self, alloc: Global) -> Result<DataFrame, FrameError>
+        ensures { IfOk result (λ t. t.rows ≡ rows_kept self.old.kept) }
+    {
+        match self.kept.take() {
+            Some(builder) => builder.finish(alloc),
+            None => DataFrame::empty_with_schema(alloc, &self.schema),
+        }
+    }
+
+    /// Ready until its input is done.
+    pub(crate) fn update(&self, recv: &mut [PortState])
+        requires { length recv.old ≡ 1 }
+        ensures { Updates (flow.InMemorySink self.now) (sides_of recv.old []) (flow.InMemorySink self.now) (sides_of recv.new []) }
+    {
+        sink::answer(recv);
+    }
+}

@@ -1,0 +1,81 @@
+//! The source of a table in memory.
+ghost use Rattle.std.specs.Prelude.{◌≡◌, ◌+◌, ◌<◌, ◌^◌, [], length};
+ghost use Rattle.node_states.specs.Views.{sides_of};
+ghost use Rattle.ps_meaning.specs.Shape.{in_memory_source};
+ghost use Rattle.ps_nodes.specs.Seen.{IsNew, Updates};
+ghost use Rattle.ps_nodes.specs.declared.flow.FlowNode.TheVariants as flow;
+
+use crate::sequence::MorselSeq;
+use node_states::{cuts, source};
+use ps_frame::frame::DataFrame;
+use ps_options::options::Options;
+use ps_ports::port_state::PortState;
+
+/// Gives the rows of a table, cut into morsels by the options of its query.
+#[derive(Drop)]
+pub struct InMemorySourceNode {
+    pub(crate) source: DataFrame,
+    pub(crate) seq_offset: MorselSeq,
+    pub(crate) options: Options,
+    pub(crate) sent: usize,
+}
+
+/// One worker, and 100,000 rows a morsel: how a source is cut before it is told otherwise.
+fn first_options() -> Options {
+    match Options::new(1, 100_000, 1, 0) {
+        Some(options) => options,
+        // each of these numbers is in its range
+        None => unreachable!(),
+    }
+}
+
+impl InMemorySourceNode {
+    /// The source of this table, whose morsels are numbered from this number on.
+    pub fn new(source: DataFrame, seq_offset: MorselSeq) -> InMemorySourceNode
+        ensures { IsNew (in_memory_source source) (flow.InMemorySource result) }
+    {
+        InMemorySourceNode {
+            source,
+            seq_offset,
+            options: first_options(),
+            sent: 0,
+        }
+    }
+
+    /// It is cut by these options from now on.
+    pub fn cut_by(&mut self, options: Options)
+        ensures { self.new ≡ record self.old { options = options } }
+    {
+        self.options = options;
+    }
+
+    /// It is cut for so many workers from now on, if options may have so many.
+    pub(crate) fn cut_for(&mut self, workers: usize) {
+        let options = &self.options;
+        if let Some(options) = Options::new(
+            workers,
+            options.morsel_rows(),
+            options.partitions(),
+            options.seed(),
+        ) {
+            self.options = options;
+        }
+    }
+
+    /// One morsel more is claimed.
+    pub fn claim(&mut self)
+        requires { self.old.sent + 1 < 2 ^ 64 }
+        ensures { self.new ≡ record self.old { sent = self.old.sent + 1 } }
+    {
+        self.sent += 1;
+    }
+
+    /// Done once its output is, or all rows were given.
+    pub(crate) fn update(&self, send: &mut [PortState])
+        requires { length send.old ≡ 1 }
+        ensures { Updates (flow.InMemorySource self.now) (sides_of [] send.old) (flow.InMemorySource self.now) (sides_of [] send.new) }
+    {
+        let gave_all = cuts::gave_all(&self.options, self.source.height(), self.sent);
+        source::answer(gave_all, send);
+    }
+}
