@@ -1,0 +1,6 @@
+pub mod Slots
+pub mod Kept
+pub mod Still
+pub mod Moves
+pub mod Reached
+pub mod Faults
