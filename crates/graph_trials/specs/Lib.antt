@@ -1,2 +1,3 @@
 pub mod Trying
 pub mod Laws
+pub mod Chains

@@ -1,4 +1,4 @@
-// Trials of graphs: how they are put together, and which part of them runs next.
+// Trials of graphs: how they are put together, come to rest, and which part of them runs next.
 #![tactic(auto)]
 
 #[cfg(test)]
@@ -7,3 +7,5 @@ mod kind;
 mod node;
 #[cfg(test)]
 mod phases;
+#[cfg(test)]
+mod settling;
