@@ -1,7 +1,12 @@
 -- The rows that a sink keeps.
 use Rattle.std.specs.Prelude.{List, [], Option, Some, None}
-use Rattle.ps_frame.specs.Tables.{Frame, Row}
+use Rattle.ps_frame.specs.Tables.{Fields, Frame, Row}
 
 abbrev pub rows_kept : Option Frame → List Row
 rows_kept None = []
 rows_kept (Some f) = f.rows
+
+-- the schema of what it keeps: its own before it keeps anything
+abbrev pub schema_kept : Fields → Option Frame → Fields
+schema_kept s None = s
+schema_kept s (Some f) = f.schema

@@ -1,9 +1,11 @@
 //! The sink.
-ghost use Rattle.std.specs.Prelude.{◌≡◌, ◌++◌, [], IfOk, OnOk, length};
+ghost use Rattle.std.specs.Prelude.{◌≡◌, ◌≢◌, ◌+◌, ◌++◌, ◌<◌, ◌≤◌, [], Err, IfOk, None, OnErr, OnOk, length};
+ghost use Rattle.ps_frame.specs.Aggregates.{max_rows};
+ghost use Rattle.ps_frame.specs.declared.error.FrameError.{FrameError};
 ghost use Rattle.node_states.specs.Views.{sides_of};
 ghost use Rattle.ps_meaning.specs.Shape.{in_memory_sink};
 ghost use Rattle.ps_nodes.specs.Seen.{IsNew, Updates};
-ghost use Rattle.ps_nodes.specs.Kept.{rows_kept};
+ghost use Rattle.ps_nodes.specs.Kept.{rows_kept, schema_kept};
 ghost use Rattle.ps_nodes.specs.declared.flow.FlowNode.TheVariants as flow;
 
 use node_states::sink;
@@ -28,7 +30,10 @@ fn with_rows(
     kept: Option<FrameBuilder>,
     df: &DataFrame,
 ) -> Result<FrameBuilder, FrameError>
-    ensures { IfOk result (λ b. b.rows ≡ rows_kept kept ++ df.now.rows) }
+    ensures kept { IfOk result (λ b. b.rows ≡ rows_kept kept ++ df.now.rows) }
+    ensures kind { result ≡ Err FrameError.Kind → schema_kept schema.now kept ≢ df.now.schema }
+    ensures too_many { result ≡ Err FrameError.Rows → max_rows < length (rows_kept kept) + length df.now.rows }
+    ensures memory { OnErr result (schema_kept schema.now kept ≡ df.now.schema → length (rows_kept kept) + length df.now.rows ≤ max_rows → result ≡ Err FrameError.OutOfMemory) }
 {
     let builder = match kept {
         Some(builder) => builder,
@@ -49,7 +54,12 @@ impl InMemorySinkNode {
     ///
     /// Fails where the table has another schema, where there are more rows than `u32::MAX`, or for want of memory.
     pub fn store(&mut self, alloc: Global, df: &DataFrame) -> Result<(), FrameError>
-        ensures { OnOk result (rows_kept self.new.kept ≡ rows_kept self.old.kept ++ df.now.rows) }
+        ensures kept { OnOk result (rows_kept self.new.kept ≡ rows_kept self.old.kept ++ df.now.rows) }
+        ensures kind { result ≡ Err FrameError.Kind → schema_kept self.old.schema self.old.kept ≢ df.now.schema }
+        ensures too_many { result ≡ Err FrameError.Rows → max_rows < length (rows_kept self.old.kept) + length df.now.rows }
+        ensures memory { OnErr result (schema_kept self.old.schema self.old.kept ≡ df.now.schema → length (rows_kept self.old.kept) + length df.now.rows ≤ max_rows → result ≡ Err FrameError.OutOfMemory) }
+        ensures dropped { OnErr result (self.new.kept ≡ None) }
+        ensures schema { self.new.schema ≡ self.old.schema }
     {
         let kept = self.kept.take();
         let builder = with_rows(alloc, &self.schema, kept, df)?;
@@ -61,7 +71,9 @@ impl InMemorySinkNode {
     ///
     /// Fails only for want of memory.
     pub fn output(&mut self, alloc: Global) -> Result<DataFrame, FrameError>
-        ensures { IfOk result (λ t. t.rows ≡ rows_kept self.old.kept) }
+        ensures rows { IfOk result (λ t. t.rows ≡ rows_kept self.old.kept) }
+        ensures memory { OnErr result (result ≡ Err FrameError.OutOfMemory) }
+        ensures given { self.new ≡ record self.old { kept = None } }
     {
         match self.kept.take() {
             Some(builder) => builder.finish(alloc),
