@@ -1,7 +1,6 @@
 // Values as words, so that a trial is a line of text: `null`, `true`, `false`, a whole number as `7`, an index as `7i`, and a
 // text as `'x`.
 use ps_frame::value::Value;
-use pu_base::PlSmallStr;
 use std::alloc::{AllocError, Global};
 use std::test::Fail;
 
@@ -15,7 +14,7 @@ fn number(word: &str) -> Option<Value> {
 /// The value of a word.
 pub fn value(alloc: Global, word: &str) -> Result<Value, Fail> {
     if let Some(text) = word.strip_prefix("'") {
-        return Ok(Value::String(PlSmallStr::from_str(alloc, text)?));
+        return Ok(Value::of_text(alloc, text)?);
     }
     match word {
         "null" => Ok(Value::Null),

@@ -61,7 +61,7 @@ fn texts(alloc: Global, rows: u32) -> Result<Column, FrameError> {
     let mut values = Vec::with_capacity(alloc, rows as usize)?;
     for row in 0..rows {
         let text = format!(in alloc; "{}", row.wrapping_mul(2_654_435_761))?;
-        values.push(Value::String(PlSmallStr::from_string(text)))?;
+        values.push(Value::of_text(alloc, text.as_str())?)?;
     }
     Column::new(alloc, DataType::String, values)
 }

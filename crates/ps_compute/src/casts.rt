@@ -7,7 +7,6 @@ ghost use Rattle.ps_frame.specs.declared.value.Value.TheVariants as val;
 use itoa::Buffer;
 use ps_frame::error::FrameError;
 use ps_frame::value::{DataType, Value};
-use pu_base::PlSmallStr;
 use std::alloc::Global;
 
 /// A value of another kind, if it has one there.
@@ -126,9 +125,5 @@ fn text_value(alloc: Global, text: &str) -> Result<Option<Value>, FrameError>
     ensures value { IfOk result (λ v. v ≡ Some (val.String text.now)) }
     ensures memory { OnErr result (result ≡ Err FrameError.OutOfMemory) }
 {
-    match PlSmallStr::from_str(alloc, text) {
-        Ok(copy) => Ok(Some(Value::String(copy))),
-        // A text's own error doesn't convert by `?`; it is want of memory alone.
-        Err(_) => Err(FrameError::OutOfMemory),
-    }
+    Ok(Some(Value::of_text(alloc, text)?))
 }

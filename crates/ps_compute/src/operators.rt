@@ -34,7 +34,7 @@ pub fn compare(a: &Value, b: &Value) -> Ordering
         (Value::Boolean(a), Value::Boolean(b)) => a.cmp(b),
         (Value::Int64(a), Value::Int64(b)) => a.cmp(b),
         (Value::IdxSize(a), Value::IdxSize(b)) => a.cmp(b),
-        (Value::String(a), Value::String(b)) => a.cmp(b),
+        (Value::String(a), Value::String(b)) => a.as_str().cmp(b.as_str()),
         _ => rank(a).cmp(&rank(b)),
     }
 }

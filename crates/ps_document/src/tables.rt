@@ -4,6 +4,7 @@ ghost use Rattle.serde_json.specs.Data.{Data};
 ghost use Rattle.serde_json.specs.View.{view};
 ghost use Rattle.ps_frame.specs.Frames.{has_distinct_names, has_name};
 ghost use Rattle.ps_frame.specs.Tables.{Frame};
+ghost use Rattle.ps_frame.specs.declared.value.Value.TheVariants as val;
 ghost use Rattle.std.specs.List.{AllZip};
 ghost use Rattle.ps_document.specs.Columns.{IsColumn, fields_of, named_column_json, typed_of};
 ghost use Rattle.ps_document.specs.Json.{list, text};
@@ -65,13 +66,30 @@ fn three_items(items: Vec<Json>) -> Option<(Json, Json, Json)>
     }
 }
 
+/// The cell that a text is.
+///
+/// Fails only for want of memory.
+fn text_cell(alloc: Global, value: &Json) -> Result<Option<Value>, AllocError>
+    ensures some { IfOk result (λ o. IfSome o (λ v. (s : List ℕ) × (v ≡ val.String s) × (view value.now ≡ text s))) }
+    ensures none { IfOk result (λ o. IfNone o ((s : List ℕ) → view value.now ≢ text s)) }
+{
+    let Some(text) = text_of(value) else {
+        return Ok(None);
+    };
+    match Value::of_text(alloc, text) {
+        Ok(cell) => Ok(Some(cell)),
+        // It fails for want of memory alone.
+        Err(_) => Err(AllocError),
+    }
+}
+
 impl TakeJson<DataType> for Value {
     ghost use Rattle.ps_document.specs.Tables.{IsCell};
 
     ghost is_json = { IsCell };
 
     fn take_json(
-        _alloc: Global,
+        alloc: Global,
         dtype: &DataType,
         value: Json,
     ) -> Result<Option<Value>, AllocError> {
@@ -82,7 +100,7 @@ impl TakeJson<DataType> for Value {
             DataType::Boolean => truth_of(&value).map(Value::Boolean),
             DataType::Int64 => whole_number_of(&value).map(Value::Int64),
             DataType::IdxSize => short_number_of(&value).map(Value::IdxSize),
-            DataType::String => take_text(value).map(Value::String),
+            DataType::String => text_cell(alloc, &value)?,
         };
         Ok(cell)
     }

@@ -60,8 +60,8 @@ pub fn literal_part(alloc: Global, literal: &LiteralValue) -> Result<ComputedCol
         LiteralValue::Boolean(b) => one_part(alloc, DataType::Boolean, Value::Boolean(*b)),
         LiteralValue::Int64(z) => one_part(alloc, DataType::Int64, Value::Int64(*z)),
         LiteralValue::IdxSize(n) => one_part(alloc, DataType::IdxSize, Value::IdxSize(*n)),
-        LiteralValue::String(s) => match s.try_clone(alloc) {
-            Ok(copy) => one_part(alloc, DataType::String, Value::String(copy)),
+        LiteralValue::String(s) => match Value::of_text(alloc, s.as_str()) {
+            Ok(text) => one_part(alloc, DataType::String, text),
             // It fails for want of memory alone.
             Err(_) => Err(AllocError),
         },

@@ -18,5 +18,6 @@ pub mod refusal;
 pub mod run;
 mod runs;
 pub mod schema;
+pub mod text;
 pub mod value;
 pub mod view;

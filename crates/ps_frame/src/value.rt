@@ -1,5 +1,5 @@
 // Kinds, values, faults and cells.
-use pu_base::PlSmallStr;
+use crate::text::CellText;
 
 /// The kind of a column.
 #[derive(Clone, Copy, Debug, PartialEq, Eq)]
@@ -17,7 +17,7 @@ pub enum Value {
     Boolean(bool),
     Int64(i64),
     IdxSize(u32),
-    String(PlSmallStr),
+    String(CellText),
 }
 
 /// What went wrong with data.
@@ -123,18 +123,14 @@ impl Value {
         }
     }
 
-    /// The value of a text.
+    /// The value of a text, which is copied.
     ///
     /// Fails only for want of memory.
-    pub(crate) fn of_text(alloc: Global, text: &str) -> Result<Value, FrameError>
+    pub fn of_text(alloc: Global, text: &str) -> Result<Value, FrameError>
         ensures made { IfOk result (λ v. v ≡ Value.String text.now) }
         ensures memory { OnErr result (result ≡ Err FrameError.OutOfMemory) }
     {
-        // A text's own error doesn't convert by `?`; it is want of memory alone.
-        match PlSmallStr::from_str(alloc, text) {
-            Ok(copy) => Ok(Value::String(copy)),
-            Err(_) => Err(FrameError::OutOfMemory),
-        }
+        Ok(Value::String(CellText::from_str(alloc, text)?))
     }
 
     /// An equal value.

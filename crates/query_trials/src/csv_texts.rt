@@ -26,7 +26,7 @@ fn written(alloc: Global, name: &str, texts: &[&str]) -> Result<String, Fail> {
         if t.is_empty() {
             values.push(Value::Null)?;
         } else {
-            values.push(Value::String(text(alloc, t)?))?;
+            values.push(Value::of_text(alloc, t)?)?;
         }
     }
     let column = Column::new(alloc, DataType::String, values)?;

@@ -26,14 +26,14 @@ fn number(row: u32) -> i64 {
 }
 
 // A text of 8 letters that looks as if drawn by lot.
-fn letters(alloc: Global, row: u32) -> Result<PlSmallStr, FrameError> {
+fn letters(alloc: Global, row: u32) -> Result<String, FrameError> {
     let mut text = String::with_capacity(alloc, LETTERS)?;
     let mut rest = u64::from(row).wrapping_mul(0x9E37_79B9_7F4A_7C15);
     for _ in 0..LETTERS {
         text.push(char::from(b'a' + (rest % 26) as u8))?;
         rest /= 26;
     }
-    Ok(PlSmallStr::from_string(text))
+    Ok(text)
 }
 
 fn numbers(alloc: Global, rows: u32) -> Result<Column, FrameError> {
@@ -55,7 +55,8 @@ fn ids(alloc: Global, rows: u32) -> Result<Column, FrameError> {
 fn texts(alloc: Global, rows: u32) -> Result<Column, FrameError> {
     let mut values = Vec::with_capacity(alloc, rows as usize)?;
     for row in 0..rows {
-        values.push(Value::String(letters(alloc, row)?))?;
+        let text = letters(alloc, row)?;
+        values.push(Value::of_text(alloc, text.as_str())?)?;
     }
     Column::new(alloc, DataType::String, values)
 }

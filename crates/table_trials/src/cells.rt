@@ -3,7 +3,6 @@ use ps_frame::builder::ColumnBuilder;
 use ps_frame::column::Column;
 use ps_frame::error::FrameError;
 use ps_frame::value::{DataType, Value};
-use pu_base::PlSmallStr;
 use std::alloc::{AllocError, Global};
 
 /// What stands in the cells of a column.
@@ -86,12 +85,15 @@ fn word_of(alloc: Global, number: u32) -> Result<String, AllocError> {
 // The i-th value.
 fn value(alloc: Global, dtype: DataType, cells: Cells, i: u32) -> Result<Value, FrameError> {
     let number = cells.number_at(i);
-    Ok(match dtype {
-        DataType::Int64 => Value::Int64(cells.int(number)),
-        DataType::String => Value::String(PlSmallStr::from_string(word_of(alloc, number)?)),
-        DataType::IdxSize => Value::IdxSize(number),
-        DataType::Boolean => Value::Boolean(number % 2 == 1),
-    })
+    match dtype {
+        DataType::Int64 => Ok(Value::Int64(cells.int(number))),
+        DataType::String => {
+            let word = word_of(alloc, number)?;
+            Value::of_text(alloc, word.as_str())
+        }
+        DataType::IdxSize => Ok(Value::IdxSize(number)),
+        DataType::Boolean => Ok(Value::Boolean(number % 2 == 1)),
+    }
 }
 
 fn by_values(alloc: Global, dtype: DataType, cells: Cells) -> Result<Column, FrameError> {
