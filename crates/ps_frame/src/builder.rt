@@ -115,10 +115,11 @@ impl ColumnBuilder {
         ensures added { OnOk result (self.new ≡ with_value self.old (Value.Int64 number)) }
         ensures refused { OnErr result (self.new ≡ self.old) }
     {
-        if self.push_known_number(number)? {
+        if self.push_packed_number(alloc, number)? {
             return Ok(());
         }
-        self.put(alloc, Value::Int64(number))
+        self.unpack(alloc)?;
+        self.push_apart(Value::Int64(number))
     }
 
     fn put_text(&mut self, alloc: Global, text: &str) -> Result<(), FrameError>
@@ -126,33 +127,36 @@ impl ColumnBuilder {
         ensures added { OnOk result (self.new ≡ with_value self.old (Value.String text.now)) }
         ensures refused { OnErr result (self.new ≡ self.old) }
     {
-        if self.push_known_text(text)? {
+        if self.push_packed_text(alloc, text)? {
             return Ok(());
         }
+        self.unpack(alloc)?;
         let value = Value::of_text(alloc, text)?;
-        self.put(alloc, value)
+        self.push_apart(value)
     }
 
-    // Puts a number at the end of the packed ones, where it was before: that is the answer.
-    fn push_known_number(&mut self, number: i64) -> Result<bool, FrameError>
+    // Puts a number at the end of the packed ones, where it may and there is room: that is the answer.
+    fn push_packed_number(&mut self, alloc: Global, number: i64) -> Result<bool, FrameError>
+        requires { self.old.kind ≡ DataType.Int64 }
         ensures taken { IfOk result (λ taken. self.new ≡ (if taken then with_value self.old (Value.Int64 number) else self.old)) }
         ensures refused { OnErr result (self.new ≡ self.old) }
     {
         if !self.rest.is_empty() {
             return Ok(false);
         }
-        self.packed.push_known_number(number)
+        self.packed.push_number(alloc, number)
     }
 
     // The same of a text.
-    fn push_known_text(&mut self, text: &str) -> Result<bool, FrameError>
+    fn push_packed_text(&mut self, alloc: Global, text: &str) -> Result<bool, FrameError>
+        requires { self.old.kind ≡ DataType.String }
         ensures taken { IfOk result (λ taken. self.new ≡ (if taken then with_value self.old (Value.String text.now) else self.old)) }
         ensures refused { OnErr result (self.new ≡ self.old) }
     {
         if !self.rest.is_empty() {
             return Ok(false);
         }
-        self.packed.push_known_text(text)
+        self.packed.push_text(alloc, text)
     }
 
     fn put(&mut self, alloc: Global, value: Value) -> Result<(), FrameError>

@@ -94,14 +94,18 @@ impl Packed {
                 self.places.push(place)?;
                 Ok(true)
             }
-            None => self.push_new(alloc, value),
+            None => {
+                let copy = value.try_clone(alloc)?;
+                self.push_new(alloc, copy)
+            }
         }
     }
 
-    /// Puts a whole number at the end, where it is among the few: that is the answer.
+    /// Puts a whole number at the end, where there is room for it: that is the answer.
     ///
     /// Fails only for want of memory.
-    pub(crate) fn push_known_number(&mut self, number: i64) -> Result<bool, FrameError>
+    pub(crate) fn push_number(&mut self, alloc: Global, number: i64) -> Result<bool, FrameError>
+        requires { self.old.kind ≡ DataType.Int64 }
         ensures taken { IfOk result (λ taken. self.new ≡ (if taken then with_value self.old (Value.Int64 number) else self.old)) }
         ensures refused { OnErr result (self.new ≡ self.old) }
         ensures memory { OnErr result (result ≡ Err FrameError.OutOfMemory) }
@@ -111,14 +115,16 @@ impl Packed {
                 self.places.push(place)?;
                 Ok(true)
             }
-            None => Ok(false),
+            None => self.push_new(alloc, Value::Int64(number)),
         }
     }
 
-    /// Puts a text at the end, where it is among the few: that is the answer.
+    /// Puts a text at the end, where there is room for it: that is the answer. It is copied only where
+    /// it isn't among the few.
     ///
     /// Fails only for want of memory.
-    pub(crate) fn push_known_text(&mut self, text: &str) -> Result<bool, FrameError>
+    pub(crate) fn push_text(&mut self, alloc: Global, text: &str) -> Result<bool, FrameError>
+        requires { self.old.kind ≡ DataType.String }
         ensures taken { IfOk result (λ taken. self.new ≡ (if taken then with_value self.old (Value.String text.now) else self.old)) }
         ensures refused { OnErr result (self.new ≡ self.old) }
         ensures memory { OnErr result (result ≡ Err FrameError.OutOfMemory) }
@@ -128,14 +134,17 @@ impl Packed {
                 self.places.push(place)?;
                 Ok(true)
             }
-            None => Ok(false),
+            None => {
+                let copy = Value::of_text(alloc, text)?;
+                self.push_new(alloc, copy)
+            }
         }
     }
 
-    // What `push` does with a value that wasn't found.
-    fn push_new(&mut self, alloc: Global, value: &Value) -> Result<bool, FrameError>
-        requires { IsTrue (fits_kind self.old.kind value.now) }
-        ensures taken { IfOk result (λ taken. self.new ≡ (if taken then with_value self.old value.now else self.old)) }
+    // Puts a value that wasn't found at the end, where there is room for it: that is the answer.
+    fn push_new(&mut self, alloc: Global, value: Value) -> Result<bool, FrameError>
+        requires { IsTrue (fits_kind self.old.kind value) }
+        ensures taken { IfOk result (λ taken. self.new ≡ (if taken then with_value self.old value else self.old)) }
         ensures refused { OnErr result (self.new ≡ self.old) }
         ensures memory { OnErr result (result ≡ Err FrameError.OutOfMemory) }
     {
@@ -143,9 +152,9 @@ impl Packed {
             return Ok(false);
         }
         let place = self.few.len() as u32;
-        let copy = value.try_clone(alloc)?;
-        self.guesses.note(alloc, self.few.as_slice(), value, place)?;
-        self.few.push(copy)?;
+        self.guesses
+            .note(alloc, self.few.as_slice(), &value, place)?;
+        self.few.push(value)?;
         self.places.push(place)?;
         Ok(true)
     }

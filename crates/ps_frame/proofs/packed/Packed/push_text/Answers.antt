@@ -1,6 +1,6 @@
 use Rattle.ps_frame.proofs.Packing.{packed-again}
 use Rattle.ps_frame.specs.declared.value.Value.TheVariants as val
-use Rattle.ps_frame.proofs.packed.Packed.push_known_text.Goals as goal
+use Rattle.ps_frame.proofs.packed.Packed.push_text.Goals as goal
 
 pub returns-in_ok-push-in-Some-clause-taken : goal.returns-in_ok-push-in-Some-clause-taken
 returns-in_ok-push-in-Some-clause-taken c =

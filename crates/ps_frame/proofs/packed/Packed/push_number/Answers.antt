@@ -3,7 +3,7 @@ use Rattle.std.specs.Prelude.{Some}
 use Rattle.std.proofs.lemmas.Int.{to_z-of_z}
 use Rattle.ps_frame.proofs.Packing.{packed-again}
 use Rattle.ps_frame.specs.declared.value.Value.TheVariants as val
-use Rattle.ps_frame.proofs.packed.Packed.push_known_number.Goals as goal
+use Rattle.ps_frame.proofs.packed.Packed.push_number.Goals as goal
 
 pub returns-in_ok-push-in-Some-clause-taken : goal.returns-in_ok-push-in-Some-clause-taken
 returns-in_ok-push-in-Some-clause-taken c =
