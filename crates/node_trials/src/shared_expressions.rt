@@ -5,7 +5,8 @@ use std::test::Fail;
 
 // Both operands of an operator; several columns; two readers of which each takes something else; a sort by itself; places
 // gathered at themselves; a filter, a ternary and a slice by itself; aggregates beside it; texts and casts; one that breaks;
-// aggregates of groups; fourteen doublings.
+// aggregates of groups; fourteen doublings. Then columns of one node: one that takes the name of what the others read; one cell
+// beside longer ones; keys of a sort, and of groups; one that breaks in the second.
 const SHARED: &str = r#"
 tables [["a","int",[3,null,1,2]],["b","bool",[true,false,null,true]],["s","str",["7","x","9","-4"]]]
 exprs ["col","a"],["col","b"],["col","s"],["add",0,0],["mul",3,3],["add",4,4]
@@ -44,6 +45,16 @@ exprs ["col","a"],["col","b"],["col","s"],["add",0,0],["mul",3,3],["sum",4],["ma
 ["group_by",0,[["b",1]],[["x",11],["y",7],["z",9],["n",10]],true,null] -> b,x,y,z,n/true,88,-16,-10,2/false,,,,0/,8,0,2,1
 exprs ["col","a"],["add",0,0],["add",1,1],["add",2,2],["add",3,3],["add",4,4],["add",5,5],["add",6,6],["add",7,7],["add",8,8],["add",9,9],["add",10,10],["add",11,11],["add",12,12],["add",13,13]
 ["select",0,[["x",14]]] -> x/49152//16384/32768
+exprs ["col","a"],["col","b"],["col","s"],["add",0,0],["mul",3,3]
+["hstack",0,[["a",3],["y",3],["z",4],["w",0]]] -> a,b,s,y,z,w/6,true,7,6,36,3/,false,x,,,/2,,9,2,4,1/4,true,-4,4,16,2
+exprs ["col","a"],["col","b"],["col","s"],["add",0,0],["sum",3],["add",4,4],["add",3,5]
+["select",0,[["x",4],["y",6],["z",5],["w",4],["v",3]]] -> x,y,z,w,v/12,30,24,12,6/12,,24,12,/12,26,24,12,2/12,28,24,12,4
+exprs ["col","a"],["col","b"],["col","s"],["add",0,0]
+["sort",0,[3,3],[false,true],[false],null] -> a,b,s/,false,x/1,,9/2,true,-4/3,true,7
+exprs ["col","a"],["col","b"],["col","s"],["add",0,0],["is_null",3],["len"]
+["group_by",0,[["k",4],["l",4],["m",3]],[["n",5]],true,null] -> k,l,m,n/false,false,6,1/true,true,,1/false,false,2,1/false,false,4,1
+exprs ["col","a"],["col","b"],["col","s"],["add",0,0],["cast",2,"int",true],["is_null",4],["add",3,3]
+["select",0,[["x",6],["y",5],["z",4]]] -> ComputeError StrictCast at 1
 "#;
 
 #[test]

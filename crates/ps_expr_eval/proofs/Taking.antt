@@ -249,10 +249,18 @@ passed f ns i d before left now h is n =
       size = let k = n.size in omega (arith, s, p, k);
     }
 
-pub noted-all : (f : Node → Tree) (ns : List Node) (i : ℕ) (before left : List Node) (e : AExpr) (size : ℕ) → ns ≡ operands_of e → size ≡ tree_size (entry_tree f (Some e)) → Noting f before left (take i ns) → trees_size (trees_of f left) < trees_size (trees_of f before) + size
-noted-all f ns i before left e size is s n =
+pub noting-none : (f : Node → Tree) (ns before : List Node) → AreComplete (trees_of f before) → Noting f before before (take 0 ns)
+noting-none f ns before c = record { complete = c; size = omega arith }
+
+pub noted-within : (f : Node → Tree) (ns : List Node) (i : ℕ) (before left : List Node) → Noting f before left (take i ns) → trees_size (trees_of f left) ≤ trees_size (trees_of f before) + trees_size (trees_of f ns)
+noted-within f ns i before left n =
     let k = n.size in
     let t = take-size f ns i in
+    omega (arith, k, t)
+
+-- what an entry takes is smaller than its tree
+pub operands-fewer : (f : Node → Tree) (ns : List Node) (left before : ℕ) (e : AExpr) (size : ℕ) → ns ≡ operands_of e → size ≡ tree_size (entry_tree f (Some e)) → left ≤ before + trees_size (trees_of f ns) → left < before + size
+operands-fewer f ns left before e size is s h =
     let o = ap (λ (xs : List Node). trees_size (trees_of f xs)) is in
     let z = s ∙ operands-size f e in
-    omega (arith, k, t, o, z)
+    omega (arith, h, o, z)

@@ -11,7 +11,7 @@ use Rattle.ps_expr_eval.specs.declared.evaluate.Work.TheVariants.{Visit, Compute
 use Rattle.ps_expr_eval.specs.declared.shared.SharedColumns.{SharedColumns}
 use Rattle.ps_frame.specs.Eval.{eval}
 use Rattle.ps_frame.specs.Tables.{Fields, Frame, whole}
-use Rattle.ps_frame.specs.Trees.{Tree, tree_at, trees_of, trees_size}
+use Rattle.ps_frame.specs.Trees.{AreComplete, Tree, tree_at, trees_of, trees_size}
 use Rattle.ps_frame.specs.declared.expr.AExpr.{AExpr}
 use Rattle.pu_base.specs.declared.arena.Node.{Node}
 
@@ -59,9 +59,9 @@ pub operands-are : (arena : List AExpr) (n : Node) (e x : AExpr) → slice_get a
 operands-are arena n e x h is = ap operands_in h ∙ ap operands_of is
 
 -- visits of entries put down their columns
-leaves-visits : (takes : Node → List Node) (one : Node) (left : List Work) (os ns : List Node) → Leaves takes one left (ns ++ os) → Leaves takes one (map Visit os ++ left) ns
-leaves-visits takes one left [] ns h = subst (Leaves takes one left) (append-nil ns) h
-leaves-visits takes one left (o ∷ os) ns h = leaves-visits takes one left os (ns ++ o ∷ []) (subst (Leaves takes one left) (sym (append_assoc ns (o ∷ []) os)) h)
+leaves-visits : (takes : Node → List Node) (some : List Node) (left : List Work) (os ns : List Node) → Leaves takes some left (ns ++ os) → Leaves takes some (map Visit os ++ left) ns
+leaves-visits takes some left [] ns h = subst (Leaves takes some left) (append-nil ns) h
+leaves-visits takes some left (o ∷ os) ns h = leaves-visits takes some left os (ns ++ o ∷ []) (subst (Leaves takes some left) (sym (append_assoc ns (o ∷ []) os)) h)
 
 typed-visits : (s : Fields) (f : Node → Tree) (os : List Node) (left : List Work) → AreTyped s f os → AreTypedWork s f left → AreTypedWork s f (map Visit os ++ left)
 typed-visits s f [] left h k = k
@@ -72,12 +72,18 @@ visits-steps f [] left = omega arith
 visits-steps f (o ∷ os) left = let rest = visits-steps f os left in omega (arith, rest)
 
 -- the steps
-pub starts : (t : Frame) (a : List AExpr) (e : Node) (m : SharedColumns) → IsTyped t.schema (tree_at a e) → Remembers t a m → Proceeds t a e (Visit e ∷ []) [] m
-starts t a e m typed known = record { waiting = []; leaves = refl; evaluated = tt; typed = (typed, tt); remembered = known }
+starts : (t : Frame) (a : List AExpr) (es : List Node) (m : SharedColumns) → AreTyped t.schema (tree_at a) es → Remembers t a m → Proceeds t a es (map Visit es ++ []) [] m
+starts t a es m typed known = record {
+  waiting = [];
+  leaves = leaves-visits (operands_at a) es [] es [] refl;
+  evaluated = tt;
+  typed = typed-visits t.schema (tree_at a) es [] typed tt;
+  remembered = known;
+}
 
-pub found : (t : Frame) (a : List AExpr) (one n : Node) (left : List Work) (ps : List ComputedColumn) (p : ComputedColumn) (m o : SharedColumns) → Evaluates t (tree_at a n) p → Remembers t a o
-    → Proceeds t a one (Visit n ∷ left) ps m → Proceeds t a one left (ps ++ p ∷ []) o
-found t a one n left ps p m o e known h = record {
+pub found : (t : Frame) (a : List AExpr) (some : List Node) (n : Node) (left : List Work) (ps : List ComputedColumn) (p : ComputedColumn) (m o : SharedColumns) → Evaluates t (tree_at a n) p → Remembers t a o
+    → Proceeds t a some (Visit n ∷ left) ps m → Proceeds t a some left (ps ++ p ∷ []) o
+found t a some n left ps p m o e known h = record {
   waiting = h.waiting ++ n ∷ [];
   leaves = h.leaves;
   evaluated = all-push t (tree_at a) h.waiting n ps p h.evaluated e;
@@ -85,19 +91,19 @@ found t a one n left ps p m o e known h = record {
   remembered = known;
 }
 
-pub visited : (t : Frame) (a : List AExpr) (one n : Node) (left : List Work) (ps : List ComputedColumn) (m o : SharedColumns) → AreTyped t.schema (tree_at a) (operands_at a n) → Remembers t a o
-    → Proceeds t a one (Visit n ∷ left) ps m → Proceeds t a one (map Visit (operands_at a n) ++ Compute n ∷ left) ps o
-visited t a one n left ps m o typed known h = record {
+pub visited : (t : Frame) (a : List AExpr) (some : List Node) (n : Node) (left : List Work) (ps : List ComputedColumn) (m o : SharedColumns) → AreTyped t.schema (tree_at a) (operands_at a n) → Remembers t a o
+    → Proceeds t a some (Visit n ∷ left) ps m → Proceeds t a some (map Visit (operands_at a n) ++ Compute n ∷ left) ps o
+visited t a some n left ps m o typed known h = record {
   waiting = h.waiting;
-  leaves = leaves-visits (operands_at a) one (Compute n ∷ left) (operands_at a n) h.waiting (h.waiting, refl, h.leaves);
+  leaves = leaves-visits (operands_at a) some (Compute n ∷ left) (operands_at a n) h.waiting (h.waiting, refl, h.leaves);
   evaluated = h.evaluated;
   typed = typed-visits t.schema (tree_at a) (operands_at a n) (Compute n ∷ left) typed (h.typed.0, h.typed.1);
   remembered = known;
 }
 
-pub computed : (t : Frame) (a : List AExpr) (one n : Node) (left : List Work) (ps qs rs : List ComputedColumn) (p : ComputedColumn) (m o : SharedColumns) → ps ≡ qs ++ rs → length rs ≡ length (operands_at a n) → Evaluates t (tree_at a n) p → (Remembers t a m → Remembers t a o)
-    → Proceeds t a one (Compute n ∷ left) ps m → Proceeds t a one left (qs ++ p ∷ []) o
-computed t a one n left ps qs rs p m o is len e known h =
+pub computed : (t : Frame) (a : List AExpr) (some : List Node) (n : Node) (left : List Work) (ps qs rs : List ComputedColumn) (p : ComputedColumn) (m o : SharedColumns) → ps ≡ qs ++ rs → length rs ≡ length (operands_at a n) → Evaluates t (tree_at a n) p → (Remembers t a m → Remembers t a o)
+    → Proceeds t a some (Compute n ∷ left) ps m → Proceeds t a some left (qs ++ p ∷ []) o
+computed t a some n left ps qs rs p m o is len e known h =
     let below = h.leaves.0 in
     let all = subst (λ (ns : List Node). EvaluateAll t (trees_of (tree_at a) ns) ps) h.leaves.1 h.evaluated in
     record {
@@ -108,12 +114,25 @@ computed t a one n left ps qs rs p m o is len e known h =
       remembered = known h.remembered;
     }
 
-pub waiting-below : (t : Frame) (a : List AExpr) (one n : Node) (left : List Work) (ps : List ComputedColumn) (m : SharedColumns) → Proceeds t a one (Compute n ∷ left) ps m → (below : List Node) × EvaluateAll t (trees_of (tree_at a) (below ++ operands_at a n)) ps
-waiting-below t a one n left ps m h = (h.leaves.0, subst (λ (ns : List Node). EvaluateAll t (trees_of (tree_at a) ns) ps) h.leaves.1 h.evaluated)
+pub waiting-below : (t : Frame) (a : List AExpr) (some : List Node) (n : Node) (left : List Work) (ps : List ComputedColumn) (m : SharedColumns) → Proceeds t a some (Compute n ∷ left) ps m → (below : List Node) × EvaluateAll t (trees_of (tree_at a) (below ++ operands_at a n)) ps
+waiting-below t a some n left ps m h = (h.leaves.0, subst (λ (ns : List Node). EvaluateAll t (trees_of (tree_at a) ns) ps) h.leaves.1 h.evaluated)
 
-pub first : (t : Frame) (a : List AExpr) (e : Node) (left : List Work) (ps : List ComputedColumn) (m : SharedColumns) → left ≡ Visit e ∷ [] → ps ≡ [] → IsTyped t.schema (tree_at a e) → Remembers t a m → Proceeds t a e (reverse left) ps m
-first t a e left ps m is none typed known =
-    subst (λ (ws : List Work). Proceeds t a e (reverse ws) ps m) (sym is) (subst (λ (qs : List ComputedColumn). Proceeds t a e (Visit e ∷ []) qs m) (sym none) (starts t a e m typed known))
+pub first : (t : Frame) (a : List AExpr) (es ns : List Node) (before left : List Work) (ps : List ComputedColumn) (m : SharedColumns) → reverse left ≡ map Visit ns ++ reverse before → before ≡ [] → ns ≡ es → ps ≡ [] → AreTyped t.schema (tree_at a) es → Remembers t a m
+    → Proceeds t a es (reverse left) ps m
+first t a es ns before left ps m put none same no_columns typed known =
+    let down : reverse left ≡ map Visit es ++ [] = put ∙ ap (λ (ws : List Work). map Visit ns ++ reverse ws) none ∙ ap (λ (xs : List Node). map Visit xs ++ []) same in
+    subst (λ (ws : List Work). Proceeds t a es ws ps m) (sym down) (subst (λ (qs : List ComputedColumn). Proceeds t a es (map Visit es ++ []) qs m) (sym no_columns) (starts t a es m typed known))
+
+-- where nothing is left to do
+pub all-done : (t : Frame) (a : List AExpr) (es : List Node) (left : List Work) (ps : List ComputedColumn) (m : SharedColumns) → left ≡ [] → Proceeds t a es (reverse left) ps m → EvaluateAll t (trees_of (tree_at a) es) ps
+all-done t a es left ps m none h =
+    let last : Proceeds t a es [] ps m = subst (λ (ws : List Work). Proceeds t a es (reverse ws) ps m) none h in
+    subst (λ (ns : List Node). EvaluateAll t (trees_of (tree_at a) ns) ps) last.leaves last.evaluated
+
+-- nothing is missing in what has a kind
+pub typed-complete : (s : Fields) (f : Node → Tree) (ns : List Node) → AreTyped s f ns → AreComplete (trees_of f ns)
+typed-complete s f [] h = tt
+typed-complete s f (n ∷ ns) h = (h.0.complete, typed-complete s f ns h.1)
 
 -- what comes next is taken off the end
 pub next-first : (left fewer : List Work) (w : Work) → left ≡ fewer ++ w ∷ [] → reverse left ≡ w ∷ reverse fewer

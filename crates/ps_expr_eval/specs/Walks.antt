@@ -1,4 +1,4 @@
--- An expression is evaluated with a list of what is left to do, and the columns that wait for their reader.
+-- Expressions are evaluated with a list of what is left to do, and the columns that wait for their reader.
 use Rattle.std.specs.Prelude.{◌≡◌, ⊤, ℕ, ◌+◌, ◌*◌, List, [], ◌∷◌, ◌++◌, slice_get, IfSome}
 use Rattle.std.specs.BTreeMap.{get}
 use Rattle.std.specs.Ordering.{nat_cmp}
@@ -20,11 +20,11 @@ Remembers table arena shared = (n : ℕ) → IfSome (get nat_cmp shared.columns 
 abbrev pub operands_at : List AExpr → Node → List Node
 operands_at arena n = operands_in (slice_get arena n.0)
 
--- where columns of these entries wait, what is left to do leaves that of one entry alone
-abbrev pub Leaves : (Node → List Node) → Node → List Work → List Node → Type 0
-Leaves takes one [] waiting = waiting ≡ one ∷ []
-Leaves takes one (Visit n ∷ left) waiting = Leaves takes one left (waiting ++ n ∷ [])
-Leaves takes one (Compute n ∷ left) waiting = (below : List Node) × (waiting ≡ below ++ takes n) × Leaves takes one left (below ++ n ∷ [])
+-- where columns of these entries wait, what is left to do leaves those of some entries, in this order
+abbrev pub Leaves : (Node → List Node) → List Node → List Work → List Node → Type 0
+Leaves takes some [] waiting = waiting ≡ some
+Leaves takes some (Visit n ∷ left) waiting = Leaves takes some left (waiting ++ n ∷ [])
+Leaves takes some (Compute n ∷ left) waiting = (below : List Node) × (waiting ≡ below ++ takes n) × Leaves takes some left (below ++ n ∷ [])
 
 -- the entry that is to be visited or computed
 abbrev pub entry_of : Work → Node
@@ -36,10 +36,10 @@ abbrev pub AreTypedWork : Fields → (Node → Tree) → List Work → Type 0
 AreTypedWork schema f [] = ⊤
 AreTypedWork schema f (w ∷ ws) = IsTyped schema (f (entry_of w)) × AreTypedWork schema f ws
 
--- what is left to do, that which comes next first, leaves the column of an expression over a table alone
-pub record Proceeds (table : Frame) (arena : List AExpr) (expr : Node) (left : List Work) (columns : List ComputedColumn) (shared : SharedColumns) : Type 0 where
+-- what is left to do, that which comes next first, leaves the columns of some expressions over a table
+pub record Proceeds (table : Frame) (arena : List AExpr) (exprs : List Node) (left : List Work) (columns : List ComputedColumn) (shared : SharedColumns) : Type 0 where
   pub waiting : List Node
-  pub leaves : Leaves (operands_at arena) expr left waiting
+  pub leaves : Leaves (operands_at arena) exprs left waiting
   pub evaluated : EvaluateAll table (trees_of (tree_at arena) waiting) columns
   pub typed : AreTypedWork table.schema (tree_at arena) left
   pub remembered : Remembers table arena shared

@@ -54,7 +54,7 @@ pub enum Work {
 /// The column of an expression over a table, as it is computed. What stands in the expression more
 /// than once under one number is computed once.
 ///
-/// It walks with a list of its own, since an expression may be deep. Fails only for want of memory.
+/// Fails only for want of memory.
 pub fn part_of(
     alloc: Global,
     expr: Node,
@@ -65,14 +65,31 @@ pub fn part_of(
     requires kind { IsSome (kind_over df.now.schema (tree_at arena.now.items expr)) }
     ensures { IfOk result (Evaluates df.now (tree_at arena.now.items expr)) }
 {
-    let mut shared = SharedColumns::new(alloc, expr, arena)?;
+    let parts = parts_of(alloc, &[expr], arena, df)?;
+    Ok(only(parts))
+}
+
+/// The columns of expressions over a table, in their order, as they are computed. What stands in them
+/// more than once under one number is computed once, in whichever of them it stands.
+///
+/// It walks with a list of its own, since an expression may be deep. Fails only for want of memory.
+pub fn parts_of(
+    alloc: Global,
+    exprs: &[Node],
+    arena: &Arena<AExpr>,
+    df: &DataFrame,
+) -> Result<Vec<ComputedColumn>, AllocError>
+    requires { AreTyped df.now.schema (tree_at arena.now.items) exprs.now }
+    ensures { IfOk result (λ parts. EvaluateAll df.now (trees_of (tree_at arena.now.items) exprs.now) parts.items) }
+{
+    let mut shared = SharedColumns::new(alloc, exprs, arena)?;
     let mut columns = Vec::new(alloc);
     let mut left = Vec::new(alloc);
-    left.push(Work::Visit(expr))?;
+    push_visits(&mut left, Vec::from_slice(alloc, exprs)?)?;
     while let Some(next) = left.pop() {
         step(alloc, next, arena, df, &mut left, &mut columns, &mut shared)?;
     }
-    Ok(only(columns))
+    Ok(columns)
 }
 
 // Does what comes next.
@@ -85,8 +102,8 @@ fn step(
     columns: &mut Vec<ComputedColumn>,
     shared: &mut SharedColumns,
 ) -> Result<(), AllocError>
-    requires { (one : ANode) × Proceeds df.now arena.now.items one (next ∷ reverse left.old.items) columns.old.items shared.old }
-    ensures proceeds { (one : ANode) → Proceeds df.now arena.now.items one (next ∷ reverse left.old.items) columns.old.items shared.old → OnOk result (Proceeds df.now arena.now.items one (reverse left.new.items) columns.new.items shared.new) }
+    requires { (exprs : List ANode) × Proceeds df.now arena.now.items exprs (next ∷ reverse left.old.items) columns.old.items shared.old }
+    ensures proceeds { (exprs : List ANode) → Proceeds df.now arena.now.items exprs (next ∷ reverse left.old.items) columns.old.items shared.old → OnOk result (Proceeds df.now arena.now.items exprs (reverse left.new.items) columns.new.items shared.new) }
     ensures smaller { OnOk result (steps_left (tree_at arena.now.items) (reverse left.new.items) < steps_left (tree_at arena.now.items) (next ∷ reverse left.old.items)) }
 {
     match next {
@@ -106,7 +123,7 @@ fn visit(
     shared: &mut SharedColumns,
 ) -> Result<(), AllocError>
     requires { IsTyped df.now.schema (tree_at arena.now.items expr) }
-    ensures proceeds { (one : ANode) → Proceeds df.now arena.now.items one (work.Visit expr ∷ reverse left.old.items) columns.old.items shared.old → OnOk result (Proceeds df.now arena.now.items one (reverse left.new.items) columns.new.items shared.new) }
+    ensures proceeds { (exprs : List ANode) → Proceeds df.now arena.now.items exprs (work.Visit expr ∷ reverse left.old.items) columns.old.items shared.old → OnOk result (Proceeds df.now arena.now.items exprs (reverse left.new.items) columns.new.items shared.new) }
     ensures smaller { OnOk result (steps_left (tree_at arena.now.items) (reverse left.new.items) < 2 * tree_size (tree_at arena.now.items expr) + steps_left (tree_at arena.now.items) (reverse left.old.items)) }
 {
     let entry = typed_entry(expr, arena, df);
@@ -146,7 +163,7 @@ fn compute(
 ) -> Result<(), AllocError>
     requires typed { IsTyped df.now.schema (tree_at arena.now.items expr) }
     requires waiting { (below : List ANode) × EvaluateAll df.now (trees_of (tree_at arena.now.items) (below ++ operands_at arena.now.items expr)) columns.old.items }
-    ensures { (one : ANode) (left : List AWork) → Proceeds df.now arena.now.items one (work.Compute expr ∷ left) columns.old.items shared.old → OnOk result (Proceeds df.now arena.now.items one left columns.new.items shared.new) }
+    ensures { (exprs : List ANode) (left : List AWork) → Proceeds df.now arena.now.items exprs (work.Compute expr ∷ left) columns.old.items shared.old → OnOk result (Proceeds df.now arena.now.items exprs left columns.new.items shared.new) }
 {
     let entry = typed_entry(expr, arena, df);
     let taken = take_last(alloc, columns, count_operands(entry))?;

@@ -1,5 +1,5 @@
 // Columns of expressions that are read more than once.
-ghost use Rattle.std.specs.Prelude.{◌≡◌, ◌≢◌, ◌<◌, ◌+◌, ℕ, List, IfOk, IfSome, None, OnOk, Some, option_copied};
+ghost use Rattle.std.specs.Prelude.{◌≡◌, ◌≢◌, ◌<◌, ◌≤◌, ◌+◌, ℕ, List, IfOk, IfSome, None, OnOk, Some, option_copied};
 ghost use Rattle.std.specs.BTreeMap.{get};
 ghost use Rattle.std.specs.Ordering.{nat_cmp};
 ghost use Rattle.ps_expr_eval.specs.Evaluations.{Evaluates};
@@ -25,14 +25,18 @@ pub struct SharedColumns {
 }
 
 impl SharedColumns {
-    /// No columns yet of what an expression takes.
+    /// No columns yet of expressions and of what they take.
     ///
     /// Fails only for want of memory.
-    pub fn new(alloc: Global, expr: Node, arena: &Arena<AExpr>) -> Result<SharedColumns, AllocError>
-        requires { IsExpression arena.now.items expr }
+    pub fn new(
+        alloc: Global,
+        exprs: &[Node],
+        arena: &Arena<AExpr>,
+    ) -> Result<SharedColumns, AllocError>
+        requires { AreComplete (trees_of (tree_at arena.now.items) exprs.now) }
         ensures { IfOk result (λ shared. (table : Frame) → Remembers table arena.now.items shared) }
     {
-        let readers = count_readers(alloc, expr, arena)?;
+        let readers = count_readers(alloc, exprs, arena)?;
         Ok(SharedColumns {
             readers,
             columns: BTreeMap::new(alloc),
@@ -115,18 +119,19 @@ fn put_column(
     Ok(())
 }
 
-// How often an expression reads each entry below it that takes others. What stands below an entry is
-// counted once, however often the entry is read.
+// How often each entry that takes others is read: by the entries below the expressions, and once
+// wherever it is one of these itself. What stands below an entry is counted once, however often the
+// entry is read.
 fn count_readers(
     alloc: Global,
-    expr: Node,
+    exprs: &[Node],
     arena: &Arena<AExpr>,
 ) -> Result<BTreeMap<usize, usize>, AllocError>
-    requires { IsExpression arena.now.items expr }
+    requires { AreComplete (trees_of (tree_at arena.now.items) exprs.now) }
 {
     let mut readers = BTreeMap::new(alloc);
     let mut left = Vec::new(alloc);
-    left.push(expr)?;
+    note_all(exprs, arena, &mut readers, &mut left)?;
     while let Some(next) = left.pop() {
         note_operands(alloc, next, arena, &mut readers, &mut left)?;
     }
@@ -147,12 +152,27 @@ fn note_operands(
     ensures smaller { OnOk result (trees_size (trees_of (tree_at arena.now.items) left.new.items) < trees_size (trees_of (tree_at arena.now.items) left.old.items) + tree_size (tree_at arena.now.items expr)) }
 {
     let nodes = operands(alloc, entry(expr, arena))?;
-    let all = nodes.as_slice();
-    for operand in all {
+    note_all(nodes.as_slice(), arena, readers, left)
+}
+
+// Counts one more reader of each of these entries, and adds those that are read for the first time to
+// what is left to look at.
+fn note_all(
+    nodes: &[Node],
+    arena: &Arena<AExpr>,
+    readers: &mut BTreeMap<usize, usize>,
+    left: &mut Vec<Node>,
+) -> Result<(), AllocError>
+    requires nodes { AreComplete (trees_of (tree_at arena.now.items) nodes.now) }
+    requires left { AreComplete (trees_of (tree_at arena.now.items) left.old.items) }
+    ensures complete { OnOk result (AreComplete (trees_of (tree_at arena.now.items) left.new.items)) }
+    ensures more { OnOk result (trees_size (trees_of (tree_at arena.now.items) left.new.items) ≤ trees_size (trees_of (tree_at arena.now.items) left.old.items) + trees_size (trees_of (tree_at arena.now.items) nodes.now)) }
+{
+    for node in nodes {
         // What takes nothing costs nothing: it isn't worth keeping.
-        let takes = count_operands(entry(*operand, arena));
-        if takes > 0 && is_first_reader(readers, *operand)? {
-            left.push(*operand)?;
+        let takes = count_operands(entry(*node, arena));
+        if takes > 0 && is_first_reader(readers, *node)? {
+            left.push(*node)?;
         }
     }
     Ok(())

@@ -1,14 +1,12 @@
 -- Loops over inputs, and what a table and expressions give as inputs.
-use Rattle.std.proofs.Common.{◌≡◌, ℕ, zero, suc, ◌+◌, ◌<◌, ◌≤◌, List, [], ◌∷◌, ◌++◌, length, get_or, take, Bool, true, false, cond, refl, subst, sym, ◌∙◌, ap, arith, add-one, append_assoc}
+use Rattle.std.proofs.Common.{◌≡◌, ℕ, zero, suc, ◌+◌, ◌<◌, ◌≤◌, List, [], ◌∷◌, ◌++◌, length, get_or, take, refl, subst, sym, ◌∙◌, ap, arith, add-one}
 use Rattle.std.proofs.Math.Seq.{take-length}
-use Rattle.std.specs.Prelude.{map, slice_get, IsTrue, Some, None}
+use Rattle.std.specs.Prelude.{map, IsSome, IsTrue}
 use Rattle.std.specs.List.{AllByRecursion, AllZip}
-use Rattle.std.specs.Str.{bytes_eq}
 use Rattle.std.proofs.lemmas.List.{map-append, take_more}
-use Rattle.std.proofs.lemmas.List.Quantifiers.{position-Some}
 use Rattle.ps_expr_eval.proofs.Parts.{all_values}
 use Rattle.ps_expr_eval.proofs.Zips.{map-map}
-use Rattle.ps_expr_eval.specs.Evaluations.{Evaluates}
+use Rattle.ps_expr_eval.specs.Evaluations.{AreTyped, EvaluateAll, Evaluates}
 use Rattle.ps_expr_eval.specs.Held.{held_cell, held_values}
 use Rattle.ps_expr_eval.specs.declared.computed.ComputedColumn.{ComputedColumn}
 use Rattle.ps_frame.proofs.Lists.{and_both}
@@ -17,9 +15,10 @@ use Rattle.ps_frame.specs.Causes.{Cell, faulty, value}
 use Rattle.ps_frame.specs.Eval.{eval}
 use Rattle.ps_frame.specs.Frames.{IsFrame, column_values, kinds_of}
 use Rattle.ps_frame.specs.Lawful.{FitsFrame}
-use Rattle.ps_frame.specs.Tables.{Fields, Frame, column_at, columns_of, field_index, field_kind, rows_of, values_at, values_at_some, whole}
-use Rattle.ps_frame.specs.Trees.{Tree}
+use Rattle.ps_frame.specs.Tables.{Fields, Frame, column_at, columns_of, rows_of, values_at, whole}
+use Rattle.ps_frame.specs.Trees.{IsComplete, Tree, trees_of}
 use Rattle.ps_frame.specs.Series.{Series, all_fit}
+use Rattle.ps_frame.specs.Typing.{kind_over}
 use Rattle.ps_frame.specs.Values.{fits_kind}
 use Rattle.ps_frame.specs.Zip.{below}
 use Rattle.ps_frame.specs.declared.value.Cell.TheVariants as held
@@ -28,7 +27,11 @@ use Rattle.ps_frame.specs.declared.value.DataType.TheVariants as kind
 use Rattle.ps_frame.specs.declared.value.Value.{Value}
 use Rattle.ps_meaning.proofs.EvalFits.{eval-fits}
 use Rattle.ps_meaning.proofs.Fits.{CellFits, all-append}
+use Rattle.ps_meaning.specs.Steps.{key_trees}
+use Rattle.ps_meaning.specs.declared.options.ExprIR.{ExprIR}
+use Rattle.pu_base.specs.declared.arena.Node.{Node}
 use Rattle.ps_zip.specs.Inputs.{AddsExprs, FitsItsKind, HasFaultAt, Holds, IsExprInput, SomeFaultAt, kind_in}
+use Rattle.ps_zip.specs.Zips.{AreTypedOver}
 use Rattle.ps_zip.specs.declared.inputs.Input.{Input}
 use Rattle.ps_zip.specs.declared.inputs.Input.TheVariants as input
 
@@ -40,12 +43,6 @@ all-more P xs i x h at' a p = subst (λ ys. AllByRecursion P ys) (sym (take_more
 
 pub all-taken : {A : Type 0} (P : A → Type 0) (xs : List A) (i : ℕ) → length xs ≤ i → i ≤ length xs → AllByRecursion P (take i xs) → AllByRecursion P xs
 all-taken P xs i g h a = let e : i ≡ length xs = omega arith in subst (λ ys. AllByRecursion P ys) (ap (λ n. take n xs) e ∙ take-length xs) a
-
--- what holds of each image
-pub all-image : {A B : Type 0} (P : B → Type 0) (f : A → B) (xs : List A) (i : ℕ) (x : A) → i < length xs → x ≡ get_or xs i x → AllByRecursion P (map f xs) → P (f x)
-all-image P f [] i x h at' a = absurd (omega arith)
-all-image P f (y ∷ xs) zero x h at' a = subst (λ z. P (f z)) (sym at') a.0
-all-image P f (y ∷ xs) (suc i) x h at' a = all-image P f xs i x (omega arith) at' a.1
 
 pub zip-append : {A B : Type 0} (R : A → B → Type 0) (xs xs' : List A) (ys ys' : List B) → AllZip R xs ys → AllZip R xs' ys' → AllZip R (xs ++ xs') (ys ++ ys')
 zip-append R [] xs' [] ys' a b = b
@@ -103,32 +100,6 @@ inputs-more cs i c old new x h at' before fit is fits grown = (
 
 -- ---- an expression
 
--- the kind of the field at the place of a name
-at-first : (name : List ℕ) (s : Fields) (i : ℕ) (k : DataType) (d : List ℕ × DataType) → bytes_eq name (get_or s i d).0 ≡ true → ((j : ℕ) → j < i → bytes_eq name (get_or s j d).0 ≡ false)
-    → slice_get (kinds_of s) i ≡ Some k → field_kind name s ≡ Some k
-at-first name [] i k d hit before is = absurd (let no : None ≡ Some k = is in cc)
-at-first name (f ∷ fs) zero k d hit before is = rw hit is
-at-first name (f ∷ fs) (suc i) k d hit before is =
-    let miss : bytes_eq name f.0 ≡ false = before 0 (omega arith) in
-    rw miss (at-first name fs i k d hit (λ j h. before (suc j) (omega arith)) is)
-
-kind-at : (name : List ℕ) (s : Fields) (i : ℕ) (k : DataType) → field_index name s ≡ Some i → slice_get (kinds_of s) i ≡ Some k → field_kind name s ≡ Some k
-kind-at name s i k there is =
-    let d : List ℕ × DataType = ([], kind.Int64) in
-    let first = position-Some (λ (f : List ℕ × DataType). bytes_eq name f.0) s i d there in
-    at-first name s i k d first.1 first.2 is
-
-pub named-is : (f : Frame) (name : List ℕ) (i : ℕ) (c : Series) → field_index name f.schema ≡ Some i → slice_get (kinds_of f.schema) i ≡ Some c.kind → c.values ≡ values_at i f.rows → IsTrue (all_fit c.kind c.values)
-    → IsExprInput f (Tree.column name) (input.Table c)
-named-is f name i c there k vs fits = record {
-  holds = λ node. record {
-    cells = ap (map held.Val) vs ∙ sym (held-whole (values_at i f.rows)) ∙ sym (ap (λ o. map held_cell (map value (values_at_some o f.rows))) there);
-    ended = refl;
-  };
-  kind = kind-at name f.schema i c.kind there k;
-  fits = table-fits c fits;
-}
-
 held-fit : (k : DataType) (cells : List Cell) → AllByRecursion (CellFits k) cells → IsTrue (all_fit k (held_values (map held_cell cells)))
 held-fit k [] h = refl
 held-fit k (value v ∷ cells) h = and_both (fits_kind k v) (all_fit k (held_values (map held_cell cells))) h.0 (held-fit k cells h.1)
@@ -143,20 +114,24 @@ computed-is f t p fits e = record {
 
 -- ---- several expressions
 
-pub adds-none : (f : Frame) (old : List Input) → AddsExprs f [] old old
-adds-none f old = ([], sym (Rattle.std.proofs.Common.append-nil old), tt)
+-- the numbers of expressions that have kinds
+typed-all : (s : Fields) (f : Node → Tree) (es : List ExprIR) → AllByRecursion IsComplete (key_trees f es) → AllByRecursion (λ t. IsSome (kind_over s t)) (key_trees f es) → AreTyped s f (map (λ (e : ExprIR). e.node) es)
+typed-all s f [] c k = tt
+typed-all s f (e ∷ es) c k = (record { complete = c.0; kind = k.0 }, typed-all s f es c.1 k.1)
 
-pub adds-more : {E : Type 0} (f : Frame) (g : E → Tree) (es : List E) (i : ℕ) (e : E) (old before after : List Input) (new : Input) → i < length es → e ≡ get_or es i e
-    → AddsExprs f (map g (take i es)) old before → IsExprInput f (g e) new → after ≡ before ++ new ∷ [] → AddsExprs f (map g (take (i + 1) es)) old after
-adds-more f g es i e old before after new h at' a one grown =
-    let front = ap (map g) (take_more es i e h ∙ ap (λ y. take i es ++ y ∷ []) (sym at')) ∙ map-append g (take i es) (e ∷ []) in (
-      a.0 ++ new ∷ [],
-      grown ∙ ap (λ xs. xs ++ new ∷ []) a.1 ∙ append_assoc old a.0 (new ∷ []),
-      subst (λ ts. AllZip (IsExprInput f) ts (a.0 ++ new ∷ [])) (sym front) (zip-append (IsExprInput f) (map g (take i es)) (g e ∷ []) a.0 (new ∷ []) a.2 (one, tt)),
-    )
+pub typed-nodes : (s : Fields) (f : Node → Tree) (es : List ExprIR) (ns : List Node) → ns ≡ map (λ (e : ExprIR). e.node) es → AreTypedOver s (key_trees f es) → AreTyped s f ns
+typed-nodes s f es ns is h = subst (λ (xs : List Node). AreTyped s f xs) (sym is) (typed-all s f es h.0 h.1)
 
-pub adds-all : {E : Type 0} (f : Frame) (g : E → Tree) (es : List E) (i : ℕ) (old new : List Input) → length es ≤ i → i ≤ length es → AddsExprs f (map g (take i es)) old new → AddsExprs f (map g es) old new
-adds-all f g es i old new p q a = let e : i ≡ length es = omega arith in subst (λ xs. AddsExprs f (map g xs) old new) (ap (λ n. take n es) e ∙ take-length es) a
+parts-are : (t : Frame) (f : Node → Tree) (es : List ExprIR) (ps : List ComputedColumn) → FitsFrame t → EvaluateAll t (trees_of f (map (λ (e : ExprIR). e.node) es)) ps → AllZip (IsExprInput t) (key_trees f es) (map input.Computed ps)
+parts-are t f [] [] fits h = tt
+parts-are t f [] (p ∷ ps) fits h = absurd h
+parts-are t f (e ∷ es) [] fits h = absurd h
+parts-are t f (e ∷ es) (p ∷ ps) fits h = (computed-is t (f e.node) p fits h.0, parts-are t f es ps fits h.1)
+
+pub adds-parts : (t : Frame) (f : Node → Tree) (es : List ExprIR) (ns : List Node) (old new : List Input) (ps : List ComputedColumn) → ns ≡ map (λ (e : ExprIR). e.node) es → FitsFrame t → EvaluateAll t (trees_of f ns) ps → new ≡ old ++ map input.Computed ps
+    → AddsExprs t (key_trees f es) old new
+adds-parts t f es ns old new ps is fits h grown =
+    (map input.Computed ps, grown, parts-are t f es ps fits (subst (λ (xs : List Node). EvaluateAll t (trees_of f xs) ps) is h))
 
 -- ---- the columns of inputs
 

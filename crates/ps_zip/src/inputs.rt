@@ -1,28 +1,28 @@
 // What a zip takes.
-ghost use Rattle.std.specs.Prelude.{◌≡◌, ◌≤◌, [], IfOk, IsSome, IsTrue, MatchResult, OnOk, Some, length, map};
+ghost use Rattle.std.specs.Prelude.{◌≡◌, ◌≤◌, ◌++◌, [], IfOk, IsTrue, MatchResult, OnOk, length, map};
 ghost use Rattle.std.specs.List.{AllByRecursion, AllZip};
 ghost use Rattle.ps_expr_eval.specs.Held.{first_bad};
 ghost use Rattle.ps_frame.specs.Aggregates.{max_rows};
 ghost use Rattle.ps_frame.specs.Frames.{broadcast_to, kinds_of};
-ghost use Rattle.ps_frame.specs.Tables.{columns_of, field_kind, whole};
-ghost use Rattle.ps_frame.specs.Trees.{IsExpression, Tree as ATree, tree_at};
+ghost use Rattle.ps_frame.specs.Tables.{columns_of, whole};
+ghost use Rattle.ps_frame.specs.Trees.{tree_at};
 ghost use Rattle.ps_frame.specs.Series.{all_fit};
-ghost use Rattle.ps_frame.specs.Typing.{kind_over};
 ghost use Rattle.ps_meaning.specs.Steps.{key_trees};
-ghost use Rattle.ps_zip.specs.Inputs.{AddsExprs, CanStand, FitsItsKind, HasFaultAt, Holds, IsColumnAt, IsExprInput, ending_in, kind_in};
+ghost use Rattle.ps_meaning.specs.declared.options.ExprIR.{ExprIR as AnExpr};
+ghost use Rattle.ps_zip.specs.Inputs.{AddsExprs, CanStand, FitsItsKind, HasFaultAt, Holds, IsColumnAt, ending_in, kind_in};
 ghost use Rattle.ps_zip.specs.Zips.{AreTypedOver};
 ghost use Rattle.ps_zip.specs.declared.inputs.Input.TheVariants as input;
 
 use ps_expr_eval::computed::ComputedColumn;
-use ps_expr_eval::evaluate::part_of;
+use ps_expr_eval::evaluate::parts_of;
 use ps_expr_eval::lengths::Ending;
 use ps_frame::column::Column;
-use ps_frame::expr::{AExpr, entry};
+use ps_frame::expr::AExpr;
 use ps_frame::frame::DataFrame;
 use ps_frame::value::{DataFault, DataType};
 use ps_meaning::options::ExprIR;
 use ps_tables::fits::table_fits;
-use pu_base::{Arena, Node, PlSmallStr};
+use pu_base::{Arena, Node};
 use std::alloc::{AllocError, Global};
 
 /// A column of the table, or one that was computed.
@@ -141,7 +141,8 @@ fn table_input(alloc: Global, column: &Column) -> Result<Input, AllocError>
     }
 }
 
-/// Adds what expressions over a table give, in order.
+/// Adds what expressions over a table give, in order. What stands in them more than once is computed
+/// once, in whichever of them it stands.
 ///
 /// Fails only for want of memory; some may then have been added.
 pub fn push_exprs(
@@ -154,52 +155,25 @@ pub fn push_exprs(
     requires { AreTypedOver df.now.schema (key_trees (tree_at arena.now.items) exprs.now) }
     ensures { OnOk result (AddsExprs df.now (key_trees (tree_at arena.now.items) exprs.now) inputs.old.items inputs.new.items) }
 {
-    for expr in exprs {
-        inputs.push(expr_input(alloc, expr.node, arena, df)?)?;
-    }
+    // A law: over a table whose values are of its kinds a column comes out of the kind of its expression.
+    table_fits(df);
+    let nodes = nodes_of(alloc, exprs)?;
+    let parts = parts_of(alloc, nodes.as_slice(), arena, df)?;
+    push_parts(inputs, parts)?;
     Ok(())
 }
 
-/// What an expression over a table gives: a column of the table, shared, or else what is computed.
-///
-/// Fails only for want of memory.
-pub fn expr_input(
-    alloc: Global,
-    expr: Node,
-    arena: &Arena<AExpr>,
-    df: &DataFrame,
-) -> Result<Input, AllocError>
-    requires expression { IsExpression arena.now.items expr }
-    requires kind { IsSome (kind_over df.now.schema (tree_at arena.now.items expr)) }
-    ensures { IfOk result (IsExprInput df.now (tree_at arena.now.items expr)) }
+fn nodes_of(alloc: Global, exprs: &[ExprIR]) -> Result<Vec<Node>, AllocError>
+    ensures { IfOk result (λ nodes. nodes.items ≡ map (λ (e : AnExpr). e.node) exprs.now) }
 {
-    match entry(expr, arena) {
-        AExpr::Column(name) => named_input(alloc, name, df),
-        _ => computed_input(alloc, expr, arena, df),
-    }
+    exprs.iter().map(|expr| expr.node).collect(alloc)
 }
 
-fn named_input(alloc: Global, name: &PlSmallStr, df: &DataFrame) -> Result<Input, AllocError>
-    requires { IsSome (field_kind name.now df.now.schema) }
-    ensures { IfOk result (IsExprInput df.now (ATree.column name.now)) }
+fn push_parts(inputs: &mut Vec<Input>, parts: Vec<ComputedColumn>) -> Result<(), AllocError>
+    ensures { OnOk result (inputs.new.items ≡ inputs.old.items ++ map input.Computed parts.items) }
 {
-    match df.schema().index_of(name.as_str()) {
-        Some(i) => table_input(alloc, df.column(i)),
-        None => unreachable!(),
+    for part in parts {
+        inputs.push(Input::Computed(part))?;
     }
-}
-
-fn computed_input(
-    alloc: Global,
-    expr: Node,
-    arena: &Arena<AExpr>,
-    df: &DataFrame,
-) -> Result<Input, AllocError>
-    requires expression { IsExpression arena.now.items expr }
-    requires kind { IsSome (kind_over df.now.schema (tree_at arena.now.items expr)) }
-    ensures { IfOk result (IsExprInput df.now (tree_at arena.now.items expr)) }
-{
-    // A law: over a table whose values are of its kinds a column comes out of the kind of its expression.
-    table_fits(df);
-    Ok(Input::Computed(part_of(alloc, expr, arena, df)?))
+    Ok(())
 }
