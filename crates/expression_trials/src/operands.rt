@@ -145,6 +145,69 @@ fn operands_are_read_however_they_are_held(rt: HostRuntime) -> Result<(), Fail> 
     Ok(())
 }
 
+/// A long text, which differs from the others in its last bytes alone, or a short one.
+fn long_text(alloc: Global, number: u32) -> Result<Value, FrameError> {
+    let text = if number % 4 == 3 {
+        format!(in alloc; "{number}")?
+    } else {
+        format!(in alloc; "{number:>2000}")?
+    };
+    Value::of_text(alloc, text.as_str())
+}
+
+/// Texts of which so many differ, from one on, and null in between.
+fn texts(alloc: Global, first: u32, differing: u32) -> Result<ComputedColumn, FrameError> {
+    let mut values = Vec::new(alloc);
+    for i in 0..CELLS {
+        if i % 11 == 3 {
+            values.push(Value::Null)?;
+        } else {
+            values.push(long_text(alloc, first.saturating_add(i % differing.max(1)))?)?;
+        }
+    }
+    let column = Column::new(alloc, DataType::String, values)?;
+    Ok(ComputedColumn {
+        dtype: DataType::String,
+        cells: Cells::Whole(Values::Shared(column)),
+        fault: None,
+    })
+}
+
+fn one_text(alloc: Global) -> Result<ComputedColumn, FrameError> {
+    let mut values = Vec::new(alloc);
+    values.push(long_text(alloc, 2)?)?;
+    Ok(computed_whole(DataType::String, values))
+}
+
+/// Some operators that compare.
+fn all_compare_row_by_row(
+    alloc: Global,
+    left: &ComputedColumn,
+    right: &ComputedColumn,
+) -> Result<bool, AllocError> {
+    for op in [Operator::Eq, Operator::NotEq, Operator::Lt, Operator::GtEq] {
+        if !goes_row_by_row(alloc, op, left, right)? {
+            return Ok(false);
+        }
+    }
+    Ok(true)
+}
+
+#[test]
+fn long_texts_are_compared_row_by_row(rt: HostRuntime) -> Result<(), Fail> {
+    let alloc = rt.alloc();
+    let one = one_text(alloc)?;
+    let held = vec![in alloc; texts(alloc, 0, 5)?, texts(alloc, 2, 7)?]?;
+    for left in &held {
+        assert!(rt; all_compare_row_by_row(alloc, left, &one)?);
+        assert!(rt; all_compare_row_by_row(alloc, &one, left)?);
+        for right in &held {
+            assert!(rt; all_compare_row_by_row(alloc, left, right)?);
+        }
+    }
+    Ok(())
+}
+
 #[test]
 fn a_faulty_cell_stays_in_its_row(rt: HostRuntime) -> Result<(), Fail> {
     let alloc = rt.alloc();

@@ -1,5 +1,6 @@
 pub mod Agreement
 pub mod AtPlaces
+pub mod Deciding
 pub mod Evaluating
 pub mod KeptRows
 pub mod LaneRows

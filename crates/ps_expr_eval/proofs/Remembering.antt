@@ -8,7 +8,7 @@ use Rattle.ps_frame.specs.Trees.{tree_at}
 use Rattle.ps_frame.specs.declared.expr.AExpr.{AExpr}
 use Rattle.pu_base.specs.declared.arena.Node.{Node}
 
-same-or-not : (m n : ℕ) → (m ≡ n) ⊎ (m ≢ n)
+pub same-or-not : (m n : ℕ) → (m ≡ n) ⊎ (m ≢ n)
 same-or-not zero zero = inl refl
 same-or-not zero (suc n) = inr (λ e. omega (arith, e))
 same-or-not (suc m) zero = inr (λ e. omega (arith, e))

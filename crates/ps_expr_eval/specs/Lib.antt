@@ -6,4 +6,5 @@ pub mod Wholes
 pub mod Evaluations
 pub mod Lanes
 pub mod Operands
+pub mod Decided
 pub mod Walks

@@ -12,7 +12,6 @@ use crate::lengths::Ending;
 use ps_compute::values::ValueList;
 use ps_frame::column::Column;
 use ps_frame::value::{Cell, DataFault, DataType, Value};
-use ps_frame::view::ColumnView;
 use std::alloc::{AllocError, Global};
 
 /// Values: those of a column, which are shared, or some of their own.
@@ -266,17 +265,6 @@ impl Cells {
         match self {
             Cells::Whole(values) => Ok(Cells::Whole(values.copy(alloc)?)),
             Cells::Mixed(cells) => Ok(Cells::Mixed(copy_cells(alloc, cells.as_slice())?)),
-        }
-    }
-
-    /// The values, where no cell is faulty and they lie in one run.
-    pub fn view(&self) -> Option<ColumnView<'_>>
-        ensures { IfSome result (λ values. cells_of self.now ≡ map held.Val values) }
-    {
-        match self {
-            Cells::Whole(Values::Shared(column)) => column.view(),
-            Cells::Whole(Values::Owned(values)) => Some(ColumnView::of_slice(values.as_slice())),
-            Cells::Mixed(_) => None,
         }
     }
 

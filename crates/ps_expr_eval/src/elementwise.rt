@@ -3,12 +3,13 @@ ghost use Rattle.std.specs.Prelude.{◌≡◌, ◌+◌, ◌∷◌, [], IfOk, if�
 ghost use Rattle.ps_expr_eval.specs.Cellwise.{IsCellwise, binary_row, cast_held, result_kind, ternary_row, unary_kind, unary_row};
 ghost use Rattle.ps_expr_eval.specs.Held.{cells_of};
 ghost use Rattle.ps_expr_eval.specs.Rows.{FillsRows, cell_for, cell_from, cells_from, repeats as repeats_in, seen};
-ghost use Rattle.ps_expr_eval.specs.Operands.{values_from};
+ghost use Rattle.ps_expr_eval.specs.Operands.{IsPlaced, values_from};
 ghost use Rattle.ps_frame.specs.Operators.{cast_value};
 ghost use Rattle.ps_frame.specs.Typing.{compares as compares_values};
 ghost use Rattle.ps_frame.specs.declared.value.Cell.TheVariants as held;
 
 use crate::computed::{Cells, ComputedColumn, Values, copy_of};
+use crate::decided::Decided;
 use crate::growing::Growing;
 use crate::lengths::{count_rows, early_fault};
 use crate::operand::Operand;
@@ -147,6 +148,8 @@ fn value_by_value(
 ) -> Result<Cells, AllocError>
     requires left { FillsRows left.now.values left.now.repeats rows }
     requires right { FillsRows right.now.values right.now.repeats rows }
+    requires left_places { IsPlaced left.now }
+    requires right_places { IsPlaced right.now }
     ensures { IfOk result (λ cells. cells_of cells ≡ map held.Val (values_from op left.now right.now rows)) }
 {
     if computes(op) {
@@ -187,11 +190,15 @@ fn few_results(
 ) -> Result<Cells, AllocError>
     requires left { FillsRows left.now.values left.now.repeats rows }
     requires right { FillsRows right.now.values right.now.repeats rows }
+    requires left_places { IsPlaced left.now }
+    requires right_places { IsPlaced right.now }
     ensures { IfOk result (λ cells. cells_of cells ≡ map held.Val (values_from op left.now right.now rows)) }
 {
     let mut cells = Growing::of_few(alloc, dtype);
+    let mut decided = Decided::new(alloc);
     for i in 0..rows {
-        cells.push_value(alloc, binary(op, left.value(i), right.value(i)))?;
+        let value = decided.value(op, left, right, i)?;
+        cells.push_value(alloc, value)?;
     }
     cells.finish(alloc)
 }

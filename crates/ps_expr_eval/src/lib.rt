@@ -3,6 +3,7 @@
 
 pub mod aggregate;
 pub mod computed;
+mod decided;
 pub mod elementwise;
 pub mod evaluate;
 pub mod filter;
