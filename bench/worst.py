@@ -150,6 +150,21 @@ def doublings(rows, times):
     return plan([[['a', 'int', [i % 7 for i in range(rows)]]]], exprs, [['scan', 0, None], ['select', 0, [['x', times]]], ['slice', 1, 0, 5]])
 
 
+def shared_by_columns(rows, columns, times):
+    """So many columns, each a number more than one expression of so many operators."""
+    exprs, named = [['col', 'a']] + [['add', i, 0] for i in range(times)], []
+    for i in range(columns):
+        exprs += [['int', i], ['add', times, len(exprs)]]
+        named.append(['c%d' % i, len(exprs) - 1])
+    return plan([[['a', 'int', [i % 7 for i in range(rows)]]]], exprs, [['scan', 0, None], ['select', 0, named], ['slice', 1, 0, 5]])
+
+
+def one_text(rows, length):
+    """A text that stands in each row, compared with itself there."""
+    return plan([[['a', 'int', [i % 7 for i in range(rows)]]]], [['str', 'x' * length], ['col', 't'], ['eq', 1, 0], ['col', 'a']],
+                [['scan', 0, None], ['hstack', 0, [['t', 0]]], ['filter', 1, 2], ['select', 2, [['a', 3]]], ['slice', 3, 0, 5]])
+
+
 def deep(operator, depth):
     """An expression of so many operators, each made of the number of the one inside it."""
     exprs = [['col', 'a'], ['bool', True], ['int', 0], ['int', 5]]
@@ -176,6 +191,8 @@ CASES = {
     'aggregates of sums': (lambda n: aggregates_of_sums(1_000, n), 200),
     'aggregates of heights': (aggregates_of_heights, 20_000),
     'fourteen doublings': (lambda n: doublings(n, 14), 20_000),
+    'columns that share': (lambda n: shared_by_columns(20_000, n, 28), 1_000),
+    'one text in all rows': (lambda n: one_text(n, 500_000), 100_000),
     'deep sums': (lambda n: deep(lambda e: ['add', e, 0], n), 253, 256),
     'deep choices': (lambda n: deep(lambda e: ['ternary', 1, e, 0], n), 253, 256),
     'deep slices': (lambda n: deep(lambda e: ['slice', e, 2, 3], n), 253, 256),
