@@ -2,7 +2,7 @@
 use Rattle.std.proofs.Common.{◌≡◌, ℕ, suc, ◌+◌, ◌*◌, ◌<◌, ◌≤◌, List, [], ◌∷◌, ◌++◌, length, refl, subst, sym, ◌∙◌, ap, append_assoc, arith}
 use Rattle.std.specs.Prelude.{map, reverse, slice_get, OnOk, Some, Result, Ok, Err}
 use Rattle.std.proofs.lemmas.List.{length-append, append-nil, reverse-append}
-use Rattle.ps_expr_eval.specs.Evaluations.{AreTyped, EvaluateAll, Evaluates, IsTyped, operands_in, operands_of}
+use Rattle.ps_expr_eval.specs.Evaluations.{AreTyped, EvaluateAll, Evaluates, operands_in, operands_of}
 use Rattle.ps_expr_eval.specs.Held.{IsOneOf, cells_of}
 use Rattle.ps_expr_eval.specs.Walks.{AreTypedWork, Leaves, Proceeds, Remembers, operands_at, steps_left}
 use Rattle.ps_expr_eval.specs.declared.computed.ComputedColumn.{ComputedColumn}
@@ -122,12 +122,6 @@ pub first : (t : Frame) (a : List AExpr) (es ns : List Node) (before left : List
 first t a es ns before left ps m put none same no_columns typed known =
     let down : reverse left ≡ map Visit es ++ [] = put ∙ ap (λ (ws : List Work). map Visit ns ++ reverse ws) none ∙ ap (λ (xs : List Node). map Visit xs ++ []) same in
     subst (λ (ws : List Work). Proceeds t a es ws ps m) (sym down) (subst (λ (qs : List ComputedColumn). Proceeds t a es (map Visit es ++ []) qs m) (sym no_columns) (starts t a es m typed known))
-
--- where nothing is left to do
-pub all-done : (t : Frame) (a : List AExpr) (es : List Node) (left : List Work) (ps : List ComputedColumn) (m : SharedColumns) → left ≡ [] → Proceeds t a es (reverse left) ps m → EvaluateAll t (trees_of (tree_at a) es) ps
-all-done t a es left ps m none h =
-    let last : Proceeds t a es [] ps m = subst (λ (ws : List Work). Proceeds t a es (reverse ws) ps m) none h in
-    subst (λ (ns : List Node). EvaluateAll t (trees_of (tree_at a) ns) ps) last.leaves last.evaluated
 
 -- nothing is missing in what has a kind
 pub typed-complete : (s : Fields) (f : Node → Tree) (ns : List Node) → AreTyped s f ns → AreComplete (trees_of f ns)

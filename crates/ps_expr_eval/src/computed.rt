@@ -1,6 +1,6 @@
 // The column of an expression while it is computed.
-ghost use Rattle.std.specs.Prelude.{◌≡◌, ◌<◌, drop, take, ◌++◌, ◌∷◌, [], length, get_or, map, option_copied, slice_get, IfOk, IfSome, IsTrue, OnOk, MatchResult, Some, None};
-ghost use Rattle.ps_expr_eval.specs.Held.{Keeps, Settles, cell_at, cells_of, ending_of, first_bad, first_fault, held_values, values_of};
+ghost use Rattle.std.specs.Prelude.{◌≡◌, ◌<◌, drop, take, [], length, option_copied, slice_get, IfOk, IsTrue, MatchResult, Some, None};
+ghost use Rattle.ps_expr_eval.specs.Held.{Keeps, Settles, cell_at, cells_of, ending_of, first_bad, held_values, values_of};
 ghost use Rattle.ps_expr_eval.specs.Rows.{repeats as repeats_in, seen as seen_cell};
 ghost use Rattle.ps_frame.specs.Causes.{whole_column};
 ghost use Rattle.ps_frame.specs.Eval.{values_between};

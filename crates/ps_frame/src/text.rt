@@ -1,25 +1,63 @@
 // The texts of cells.
 ghost use Rattle.std.specs.Prelude.{◌≡◌, ◌↔◌, IfOk, IsTrue, OnErr, Err};
+ghost use Rattle.ps_frame.specs.Texts.{bytes_of};
 
 use crate::error::FrameError;
+use arrayvec::ArrayString;
 use pu_base::PlSmallStr;
 use std::alloc::Global;
 use std::fmt;
 use std::marker::Model;
 
+// So many bytes take one allocation.
+const SHORT: usize = 24;
+
 /// The text of a cell, seen as its bytes. Where it stands it takes 8 bytes, as a whole number does, so
 /// that a column of numbers pays nothing for texts; its bytes lie elsewhere.
 #[derive(Drop)]
 pub struct CellText {
-    text: Box<PlSmallStr>,
+    text: Box<Content>,
+}
+
+/// A short text in its place, or a longer one that takes a second allocation.
+#[derive(Drop)]
+enum Content {
+    Short(ArrayString<SHORT>),
+    Long(PlSmallStr),
 }
 
 impl Model for CellText {
     ghost use Rattle.std.specs.Prelude.{List, ℕ};
+    ghost use Rattle.ps_frame.specs.Texts.{bytes_of};
 
     ghost Value = { List ℕ };
 
-    ghost view = { λ a. a.text.value };
+    ghost view = { λ a. bytes_of a.text.value };
+}
+
+impl Content {
+    fn of(alloc: Global, text: &str) -> Result<Content, FrameError>
+        ensures same { IfOk result (λ content. bytes_of content ≡ text.now) }
+        ensures memory { OnErr result (result ≡ Err FrameError.OutOfMemory) }
+    {
+        if let Ok(short) = ArrayString::from(text) {
+            return Ok(Content::Short(short));
+        }
+        // A text's own error doesn't convert by `?`; it is want of memory alone.
+        match PlSmallStr::from_str(alloc, text) {
+            Ok(long) => Ok(Content::Long(long)),
+            Err(_) => Err(FrameError::OutOfMemory),
+        }
+    }
+
+    fn as_str(&self) -> &str
+        ensures { result.now ≡ bytes_of self.now }
+    {
+        match self {
+            Content::Short(text) => text.as_str(),
+            Content::Long(text) => text.as_str(),
+        }
+    }
 }
 
 impl CellText {
@@ -30,11 +68,8 @@ impl CellText {
         ensures same { IfOk result (λ copy. copy ≡ text.now) }
         ensures memory { OnErr result (result ≡ Err FrameError.OutOfMemory) }
     {
-        // A text's own error doesn't convert by `?`; it is want of memory alone.
-        let Ok(copy) = PlSmallStr::from_str(alloc, text) else {
-            return Err(FrameError::OutOfMemory);
-        };
-        let text = Box::new(alloc, copy)?;
+        let content = Content::of(alloc, text)?;
+        let text = Box::new(alloc, content)?;
         Ok(CellText { text })
     }
 
@@ -49,14 +84,14 @@ impl CellText {
     pub fn as_bytes(&self) -> &[u8]
         ensures { result.now ≡ self.now }
     {
-        self.text.as_bytes()
+        self.as_str().as_bytes()
     }
 
     /// Whether this is the same text as another.
     pub fn eq_str(&self, other: &str) -> bool
         ensures { IsTrue result ↔ (self.now ≡ other.now) }
     {
-        self.text.eq_str(other)
+        self.as_str() == other
     }
 }
 

@@ -1,7 +1,6 @@
 // What a zip takes.
 ghost use Rattle.std.specs.Prelude.{◌≡◌, ◌≤◌, ◌++◌, [], IfOk, IsTrue, MatchResult, OnOk, length, map};
 ghost use Rattle.std.specs.List.{AllByRecursion, AllZip};
-ghost use Rattle.ps_expr_eval.specs.Held.{first_bad};
 ghost use Rattle.ps_frame.specs.Aggregates.{max_rows};
 ghost use Rattle.ps_frame.specs.Frames.{broadcast_to, kinds_of};
 ghost use Rattle.ps_frame.specs.Tables.{columns_of, whole};

@@ -1,9 +1,9 @@
-use Rattle.std.proofs.Common.{List, ◌∷◌, ◌<◌, subst, sym}
+use Rattle.std.proofs.Common.{List, ◌<◌, subst, sym}
 use Rattle.std.specs.Prelude.{reverse}
 use Rattle.ps_expr_eval.specs.Walks.{Proceeds, steps_left}
 use Rattle.ps_expr_eval.specs.declared.evaluate.Work.{Work}
 use Rattle.ps_frame.specs.Trees.{tree_at}
-use Rattle.ps_expr_eval.proofs.Walking.{all-done, first, next-first, typed-complete}
+use Rattle.ps_expr_eval.proofs.Walking.{first, next-first, typed-complete}
 use Rattle.ps_expr_eval.proofs.evaluate.parts_of.Goals as goal
 
 pub new-requires : goal.new-requires
