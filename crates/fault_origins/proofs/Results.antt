@@ -101,7 +101,7 @@ module _ (F : Functions) where
   of_found : (s : World) (node : Node) (n : ℕ) (c : Cause) → (shape_fault node.node node.node.kind (heads_of s n node) (given_at s n) ≡ Some c) ⊎ BreaksTable F s.options node.node (schemas_for s node) (given_at s n) node.progress c → c.node ≡ node.node.origin
   of_found s node n c (inl e) = of_shape node.node node.node.kind (heads_of s n node) (given_at s n) c e
   of_found s node n c (inr b) =
-      of_broken node.node (whole_tables (schemas_for s node) (stored_tables (schemas_for s node) node.progress)) (all_whole (schemas_for s node) (stored_tables (schemas_for s node) node.progress)) c b.1
+      of_broken node.node (whole_tables (schemas_for s node) (stored_tables node.progress)) (all_whole (schemas_for s node) (stored_tables node.progress)) c b.1
 
   -- a node of the world, and the entry of its number in the shape
   shown : (w : World) (n : ℕ) (node : Node) (p : PhysicalNode) → slice_get w.nodes n ≡ Some node → slice_get (shape_of w) n ≡ Some p → node.node ≡ p

@@ -5,13 +5,12 @@ use Rattle.ps_frame.specs.Aggregates.{max_rows}
 use Rattle.ps_frame.specs.Causes.{Cause}
 use Rattle.ps_frame.specs.Functions.{Functions}
 use Rattle.ps_frame.specs.Tables.{Fields, Row, Table}
-use Rattle.ps_meaning.specs.Cases.{end_of}
+use Rattle.ps_meaning.specs.Cases.{end_of, rows_table}
 use Rattle.ps_meaning.specs.Shape.{PhysicalKind, PhysicalNode, Shape, equi_join, filter_node, group_by_node, in_memory_join, in_memory_map, in_memory_sink, in_memory_source, independent_select, multiplexer, negative_slice, ordered_union, reduce, select_node, simple_projection, stream_map, streaming_slice, with_row_index, zip_node}
 use Rattle.ps_meaning.specs.Sound.{IsSound, input_schemas}
 use Rattle.ps_turns.specs.Claims.{Claim, passes, sliced}
 use Rattle.ps_turns.specs.Progress.{Progress}
 use Rattle.ps_turns.specs.Results.{rows_fault}
-use Rattle.ps_turns.specs.Tables.{whole_table}
 use Rattle.ps_turns.specs.Tasks.{bad, good}
 use Rattle.ps_options.specs.declared.options.Options.{Options}
 use Rattle.ps_world.specs.Booking.{BeforeAfter, CaseAfter, Computes, GivesAfter, GoesOn, HasBooked, IsPassing, IsShort, MayAnswer, StandsAt, slice_after}
@@ -32,8 +31,8 @@ module _ (F : Functions) (o : Options) (schema : Fields) (origin : ℕ) (inputs 
   claim kind progress k rs = passes o (node kind) (s ∷ []) kind progress k rs
 
   -- where the node's case is computed
-  computed : (p : PhysicalNode) → GoesOn F p s → (k : ℕ) (rs b : List Row) → ((T : Table) × CaseAfter F p p.kind k (whole_table s rs) T × (T.broken ≡ []) × (T.rows ≡ b) × (length b ≤ max_rows)) → GivesAfter F p s k rs b
-  computed p law k rs b (T, c, w, q, m) = (T, c, w, law.schemas k (whole_table s rs) T refl c, q)
+  computed : (p : PhysicalNode) → GoesOn F p s → (k : ℕ) (rs b : List Row) → ((T : Table) × CaseAfter F p p.kind k (rows_table s rs) T × (T.broken ≡ []) × (T.rows ≡ b) × (length b ≤ max_rows)) → GivesAfter F p s k rs b
+  computed p law k rs b (T, c, w, q, m) = (T, c, w, law.schemas k (rows_table s rs) T refl c, q)
 
   good-gives : (kind : PhysicalKind) → IsPassing kind → GoesOn F (node kind) s → (progress : Progress) (before : ℕ) → HasBooked kind progress before → (i k : ℕ) (rs b : List Row) → MayAnswer F i (claim kind progress k rs) (good b) → GivesAfter F (node kind) s before rs b
   good-gives (filter_node e) h law progress before booked i k rs b r = computed (node (filter_node e)) law before rs b r
@@ -43,9 +42,9 @@ module _ (F : Functions) (o : Options) (schema : Fields) (origin : ℕ) (inputs 
   good-gives (stream_map step) h law progress before booked i k rs b r = computed (node (stream_map step)) law before rs b r
   good-gives (with_row_index name offset) h law progress before booked i k rs b r = subst (λ m. GivesAfter F (node (with_row_index name offset)) s m rs b) booked (computed (node (with_row_index name offset)) law progress.booked rs b r)
   good-gives (streaming_slice offset n) h law progress before booked i k rs b r =
-      let U = slice_after offset n progress.booked (whole_table s rs) in
+      let U = slice_after offset n progress.booked (rows_table s rs) in
       let q : sliced offset n progress.booked rs ≡ b = (let e : sliced offset n progress.booked rs ∷ [] ≡ b ∷ [] = r in cc) in
-      subst (λ m. GivesAfter F (node (streaming_slice offset n)) s m rs b) booked (U, refl, none-broken (nat_eq n 0 || nat_le (end_of offset n - progress.booked) (length rs)), law.schemas progress.booked (whole_table s rs) U refl refl, q)
+      subst (λ m. GivesAfter F (node (streaming_slice offset n)) s m rs b) booked (U, refl, none-broken (nat_eq n 0 || nat_le (end_of offset n - progress.booked) (length rs)), law.schemas progress.booked (rows_table s rs) U refl refl, q)
   good-gives (in_memory_source t) h law progress before booked i k rs b r = absurd h
   good-gives (negative_slice back n) h law progress before booked i k rs b r = absurd h
   good-gives (independent_select es) h law progress before booked i k rs b r = absurd h
@@ -61,7 +60,7 @@ module _ (F : Functions) (o : Options) (schema : Fields) (origin : ℕ) (inputs 
 
   -- a cause is one of the node's table over the piece, or that has too many rows
   abbrev Breaks : PhysicalNode → (before : ℕ) → List Row → Cause → Type 0
-  Breaks p k rs c = (U : Table) × BeforeAfter F p p.kind k (whole_table s rs) U × (Contains U.broken c ⊎ (max_rows < length U.rows) × (c ≡ rows_fault p))
+  Breaks p k rs c = (U : Table) × BeforeAfter F p p.kind k (rows_table s rs) U × (Contains U.broken c ⊎ (max_rows < length U.rows) × (c ≡ rows_fault p))
 
   bad-breaks : (kind : PhysicalKind) → IsShort kind → (progress : Progress) (before : ℕ) → HasBooked kind progress before → (i k : ℕ) (rs : List Row) (c : Cause) → MayAnswer F i (claim kind progress k rs) (bad c) → Computes kind × Breaks (node kind) before rs c
   bad-breaks (filter_node e) h progress before booked i k rs c r = (tt, r)

@@ -6,7 +6,7 @@ use Rattle.ps_frame.specs.Causes.{Cause}
 use Rattle.ps_frame.specs.Functions.{Functions}
 use Rattle.ps_frame.specs.Tables.{Fields, Row, Table}
 use Rattle.ps_meaning.specs.Shape.{PhysicalBefore, PhysicalKind, PhysicalNode, as_step, equi_join, filter_node, group_by_node, in_memory_join, in_memory_map, in_memory_sink, in_memory_source, independent_select, multiplexer, negative_slice, ordered_union, reduce, select_node, simple_projection, stream_map, streaming_slice, tables_for, with_row_index, zip_node}
-use Rattle.ps_turns.specs.Tables.{whole_table}
+use Rattle.ps_meaning.specs.Cases.{rows_table}
 use Rattle.ps_world.specs.Booking.{BeforeAfter, Computes, FaultsByPart, GivesFewer, StandsAt}
 use Rattle.ps_world.specs.Laws.{BreaksWhatever, IsLargeWhatever, sent_by}
 use Rattle.ps_world.specs.World.{Pipe, rows_in_order}
@@ -48,7 +48,7 @@ tables-same F (equi_join o) h Ts = refl
 tables-same F (in_memory_join o) h Ts = refl
 
 module _ (F : Functions) (p : PhysicalNode) (s : Fields) (computes : Computes p.kind) (by_part : FaultsByPart F p s) (from : Pipe) (k : ℕ) (front a : List Row) (there : StandsAt from.got k front a) where
-  pub piece-faults : (U : Table) (c : Cause) → BeforeAfter F p p.kind (length front) (whole_table s a) U → Contains U.broken c → BreaksWhatever F p (s ∷ []) (sent_by from ∷ []) c
+  pub piece-faults : (U : Table) (c : Cause) → BeforeAfter F p p.kind (length front) (rows_table s a) U → Contains U.broken c → BreaksWhatever F p (s ∷ []) (sent_by from ∷ []) c
   piece-faults U c g h [] e x = absurd x
   piece-faults U c g h (T ∷ []) e x =
       let v = around from.got k front a there x.0.rest T.rows x.0.begins in
@@ -63,7 +63,7 @@ passes-limit m u a n f r h k e = omega arith
 
 -- a piece that gives too many rows has an input with too many
 module _ (F : Functions) (p : PhysicalNode) (s : Fields) (fewer : GivesFewer F p s) (from : Pipe) (k : ℕ) (front a : List Row) (there : StandsAt from.got k front a) where
-  pub piece-overflows : (U : Table) → BeforeAfter F p p.kind (length front) (whole_table s a) U → max_rows < length U.rows → IsLargeWhatever F p (s ∷ []) (sent_by from ∷ [])
+  pub piece-overflows : (U : Table) → BeforeAfter F p p.kind (length front) (rows_table s a) U → max_rows < length U.rows → IsLargeWhatever F p (s ∷ []) (sent_by from ∷ [])
   piece-overflows U g h [] e x = absurd x
   piece-overflows U g h (T ∷ []) e x =
       let v = around from.got k front a there x.0.rest T.rows x.0.begins in

@@ -11,10 +11,9 @@ ghost use Rattle.ps_frame.specs.declared.value.DataType.TheVariants as kind;
 ghost use Rattle.ps_rowwise.specs.Rows.{HasKind};
 ghost use Rattle.ps_turns.specs.Claims.{passes};
 ghost use Rattle.ps_turns.specs.Progress.{Progress};
-ghost use Rattle.ps_turns.specs.Tables.{whole_table};
 ghost use Rattle.ps_turns.specs.Tasks.{bad, good};
 ghost use Rattle.ps_options.specs.declared.options.Options.{Options};
-ghost use Rattle.ps_meaning.specs.Cases.{stream_table};
+ghost use Rattle.ps_meaning.specs.Cases.{stream_table, rows_table};
 ghost use Rattle.ps_meaning.specs.Schemas.{output_schema};
 ghost use Rattle.ps_meaning.specs.Shape.{PhysicalNode, Shape, filter_node, select_node, simple_projection, stream_map, streaming_slice, with_row_index};
 ghost use Rattle.ps_meaning.specs.Sound.{AreElementwise, IsSound, have_all_kinds, input_schemas};
@@ -82,14 +81,14 @@ pub fn pieces_are_not_alone()
 
 /// A cause that a piece of a passing node may answer breaks the node, whatever its input turns out to mean. One with too many rows, but for a map, has an input with too many.
 pub fn pieces_fault_as_their_node()
-    ensures causes { (F : Functions) (shape : Shape) (n : ℕ) (p : PhysicalNode) (s : Fields) → IsSound F shape → slice_get shape n ≡ Some p → Computes p.kind → input_schemas shape p ≡ s ∷ [] → (from : Pipe) (k : ℕ) (front a : List Row) → StandsAt from.got k front a → (U : Table) (c : Cause) → BeforeAfter F p p.kind (length front) (whole_table s a) U → Contains U.broken c → BreaksWhatever F p (s ∷ []) (sent_by from ∷ []) c }
-    ensures rows { (F : Functions) (shape : Shape) (n : ℕ) (p : PhysicalNode) (s : Fields) → IsSound F shape → slice_get shape n ≡ Some p → IsShort p.kind → input_schemas shape p ≡ s ∷ [] → (from : Pipe) (k : ℕ) (front a : List Row) → StandsAt from.got k front a → (U : Table) → BeforeAfter F p p.kind (length front) (whole_table s a) U → max_rows < length U.rows → IsLargeWhatever F p (s ∷ []) (sent_by from ∷ []) }
+    ensures causes { (F : Functions) (shape : Shape) (n : ℕ) (p : PhysicalNode) (s : Fields) → IsSound F shape → slice_get shape n ≡ Some p → Computes p.kind → input_schemas shape p ≡ s ∷ [] → (from : Pipe) (k : ℕ) (front a : List Row) → StandsAt from.got k front a → (U : Table) (c : Cause) → BeforeAfter F p p.kind (length front) (rows_table s a) U → Contains U.broken c → BreaksWhatever F p (s ∷ []) (sent_by from ∷ []) c }
+    ensures rows { (F : Functions) (shape : Shape) (n : ℕ) (p : PhysicalNode) (s : Fields) → IsSound F shape → slice_get shape n ≡ Some p → IsShort p.kind → input_schemas shape p ≡ s ∷ [] → (from : Pipe) (k : ℕ) (front a : List Row) → StandsAt from.got k front a → (U : Table) → BeforeAfter F p p.kind (length front) (rows_table s a) U → max_rows < length U.rows → IsLargeWhatever F p (s ∷ []) (sent_by from ∷ []) }
 {}
 
 /// A map by a function that streams gives no rows where the first of two rows faults, and all rows of the second's answer where that row comes alone.
 pub fn maps_may_pass_the_limit()
-    ensures alone { (F : Functions) (n : ℕ) (s o : Fields) (at : ℕ) (r : Row) (big : Frame) → F.answer n (record { schema = s; rows = r ∷ [] }) ≡ Some big → (stream_table F at n o (whole_table s (r ∷ []))).rows ≡ big.rows }
-    ensures behind { (F : Functions) (n : ℕ) (s o : Fields) (at : ℕ) (q r : Row) → F.answer n (record { schema = s; rows = q ∷ [] }) ≡ None → (stream_table F at n o (whole_table s (q ∷ r ∷ []))).rows ≡ [] }
+    ensures alone { (F : Functions) (n : ℕ) (s o : Fields) (at : ℕ) (r : Row) (big : Frame) → F.answer n (record { schema = s; rows = r ∷ [] }) ≡ Some big → (stream_table F at n o (rows_table s (r ∷ []))).rows ≡ big.rows }
+    ensures behind { (F : Functions) (n : ℕ) (s o : Fields) (at : ℕ) (q r : Row) → F.answer n (record { schema = s; rows = q ∷ [] }) ≡ None → (stream_table F at n o (rows_table s (q ∷ r ∷ []))).rows ≡ [] }
 {}
 
 /// What may be handed in for a claim of a passing node is what the node gives behind the rows before; a cause breaks the node or, where there are too many rows, its input has too many.

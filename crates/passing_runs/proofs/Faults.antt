@@ -10,7 +10,8 @@ use Rattle.ps_options.specs.declared.options.Options.{Options}
 use Rattle.ps_turns.specs.Claims.{passes}
 use Rattle.ps_turns.specs.Progress.{Progress}
 use Rattle.ps_turns.specs.Results.{IsResult, rows_fault}
-use Rattle.ps_turns.specs.Tables.{whole_table, whole_tables}
+use Rattle.ps_turns.specs.Tables.{whole_tables}
+use Rattle.ps_meaning.specs.Cases.{rows_table}
 use Rattle.ps_turns.specs.Tasks.{Piece, bad}
 use Rattle.ps_world.specs.Booking.{BeforeAfter, Computes, FaultsByPart, GivesFewer, HasBooked, IsPassing, IsShort, MayAnswer}
 use Rattle.ps_world.specs.Laws.{Faults, Overflows, sent_by}
@@ -44,7 +45,7 @@ task_of o p s kind a k rs h = absurd h
 module _ (F : Functions) where
   -- a cause is one of the node's table over the piece, or says that it has too many rows
   abbrev Breaks : PhysicalNode → Fields → (before : ℕ) → List Row → Cause → Type 0
-  Breaks p s k rs c = (U : Table) × BeforeAfter F p p.kind k (whole_table s rs) U × (Contains U.broken c ⊎ (max_rows < length U.rows) × (c ≡ rows_fault p))
+  Breaks p s k rs c = (U : Table) × BeforeAfter F p p.kind k (rows_table s rs) U × (Contains U.broken c ⊎ (max_rows < length U.rows) × (c ≡ rows_fault p))
 
   module _ (o : Options) (schema : Fields) (origin : ℕ) (inputs : List (ℕ × ℕ)) (s : Fields) where
     abbrev node : PhysicalKind → PhysicalNode

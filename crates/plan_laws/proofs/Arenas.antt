@@ -1,15 +1,11 @@
 -- Plans as arenas, which unfold by computing to the plans of the other files.
-use Rattle.std.proofs.Common.{◌≡◌, ◌++◌, ◌∙◌, ap, length, ℕ, ℤ, false, List, [], ◌∷◌, None, pos, refl}
+use Rattle.std.proofs.Common.{◌≡◌, false, [], ◌∷◌, None, pos, refl}
 use Rattle.std.specs.Prelude.{codes}
-use Rattle.pu_base.specs.declared.arena.Node.{Node}
 use Rattle.ps_frame.specs.Trees.{tree_within}
-use Rattle.ps_frame.specs.declared.expr.AExpr.{AExpr}
 use Rattle.ps_frame.specs.declared.expr.AExpr.TheVariants as expr
 use Rattle.ps_frame.specs.declared.expr.LiteralValue.TheVariants as lit
 use Rattle.ps_frame.specs.declared.expr.Operator.TheVariants as op
-use Rattle.ps_frame.specs.declared.expr.What.{What}
 use Rattle.ps_plan.specs.Plans.{IsPlan, Plan, plan_within, tree_of}
-use Rattle.ps_plan.specs.declared.ir.IR.{IR}
 use Rattle.ps_plan.specs.declared.ir.IR.TheVariants as entry
 use Rattle.ps_meaning.specs.declared.options.SinkType.TheVariants as sink_type
 use Rattle.plan_laws.specs.Refused.{named, node_of}

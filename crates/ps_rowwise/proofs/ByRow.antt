@@ -1,13 +1,12 @@
 -- The column of an elementwise expression goes row by row.
-use Rattle.std.proofs.Common.{◌≡◌, ℕ, List, [], ◌∷◌, ◌++◌, length, get_or, refl, sym, ap, subst, ◌∙◌}
-use Rattle.std.proofs.lemmas.List.{length-map, map-append}
+use Rattle.std.proofs.Common.{◌≡◌, ℕ, List, [], ◌∷◌, get_or, refl, ap, subst, ◌∙◌}
 use Rattle.std.proofs.lemmas.Simd.{map-map}
 use Rattle.std.specs.Prelude.{Bool, true, false, not, ◌&&◌, ◌||◌, if◌then◌else◌, map, is_some, IsTrue, Option, Some, None}
-use Rattle.std.specs.List.{flat_map, list_any}
+use Rattle.std.specs.List.{list_any}
 use Rattle.std.specs.Str.{bytes_eq}
 use Rattle.ps_frame.proofs.NamePlaces.{is_some-position}
-use Rattle.ps_frame.specs.Causes.{Cause, Cell, Column, value, is_empty, is_ended}
-use Rattle.ps_frame.specs.Eval.{at, cell_of_row, cellwise, eval, function_column, literal_value}
+use Rattle.ps_frame.specs.Causes.{Cause, Cell, Column, value, is_empty}
+use Rattle.ps_frame.specs.Eval.{at, cell_of_row, cellwise, eval, literal_value}
 use Rattle.ps_frame.specs.Operators.{binary_value, cast_cell, cast_value, choice_of, not_value}
 use Rattle.ps_frame.specs.Tables.{Fields, Table, field_index, field_kind, values_at_some}
 use Rattle.ps_frame.specs.Trees.{Tree}
@@ -21,7 +20,7 @@ use Rattle.ps_frame.specs.declared.value.DataType.TheVariants as kind
 use Rattle.ps_frame.specs.declared.value.Value.{Value}
 use Rattle.ps_frame.specs.declared.value.Value.TheVariants as val
 use Rattle.ps_rowwise.specs.Rows.{HasKind}
-use Rattle.ps_rowwise.proofs.Standing.{AllStand, Operand, Stands, stands-cellwise}
+use Rattle.ps_rowwise.proofs.Standing.{Operand, Stands, stands-cellwise}
 
 -- operands of what has a kind have one
 pub binary-kinds : (o : Operator) (a b : Option DataType) → IsTrue (is_some (binary_kind o a b)) → IsTrue (is_some a) × IsTrue (is_some b)

@@ -1,6 +1,6 @@
 -- What is independent of the input doesn't look at the table.
 use Rattle.std.proofs.Common.{◌≡◌, ℕ, [], ◌∷◌, refl}
-use Rattle.std.specs.Prelude.{Bool, true, false, not, ◌&&◌, ◌||◌, ◌==◌, if◌then◌else◌, map, is_some, IsTrue, List}
+use Rattle.std.specs.Prelude.{true, false, not, ◌&&◌, ◌||◌, ◌==◌, map, is_some, IsTrue}
 use Rattle.ps_frame.specs.Aggregates.{aggregate_column}
 use Rattle.ps_frame.specs.Causes.{whole_column}
 use Rattle.ps_frame.specs.Eval.{at, cellwise, eval, eval_all, from_whole, function_column, kept, operand, picked, slice_column, sorted_by_keys}

@@ -14,7 +14,7 @@ use Rattle.ps_frame.specs.Tables.{Table}
 use Rattle.ps_frame.specs.Trees.{Aggregation, Tree, Trees}
 use Rattle.ps_frame.specs.Typing.{are_scalar, fits_keys, have_kinds, is_kind, is_scalar, kind_over, tree_count}
 use Rattle.ps_frame.specs.Values.{is_null}
-use Rattle.ps_frame.specs.Zip.{Extent, aligned, below, cell_in_row, ends_early, extents, is_faulty_row, lengths_where, row_causes, rows_before_fault, zip_causes, zip_length, zip_rows, zipped}
+use Rattle.ps_frame.specs.Zip.{Extent, aligned, below, cell_in_row, ends_early, extents, is_faulty_row, lengths_where, row_causes, zip_causes, zip_length, zip_rows, zipped}
 use Rattle.ps_frame.specs.declared.expr.FunctionExpr.{FunctionExpr}
 use Rattle.ps_frame.specs.declared.expr.FunctionExpr.TheVariants as fun
 use Rattle.ps_frame.specs.declared.value.DataFault.TheVariants as fault

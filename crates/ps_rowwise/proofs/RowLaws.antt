@@ -3,7 +3,7 @@ use Rattle.std.proofs.Common.{◌≡◌, ℕ, List, [], ◌∷◌, ◌++◌, len
 use Rattle.std.proofs.lemmas.List.{append-nil, length-map, map-append}
 use Rattle.std.specs.Prelude.{Bool, true, false, not, map, IsTrue}
 use Rattle.std.specs.List.{flat_map}
-use Rattle.ps_frame.specs.Causes.{Cause, Cell, Column, is_empty, is_ended}
+use Rattle.ps_frame.specs.Causes.{Cause, Cell, Column, is_empty}
 use Rattle.ps_frame.specs.Eval.{eval}
 use Rattle.ps_frame.specs.Tables.{Fields, Table}
 use Rattle.ps_frame.specs.Trees.{Tree}
@@ -13,7 +13,7 @@ use Rattle.ps_meaning.proofs.Begins.{begins-map}
 use Rattle.ps_rowwise.specs.Rows.{AreParts, Begins, GoesByRow, HasKind, IsFront, row_alone}
 use Rattle.ps_rowwise.proofs.ByRow.{cell_for, goes-by}
 use Rattle.ps_rowwise.proofs.Ignoring.{same-column}
-use Rattle.ps_rowwise.proofs.Standing.{Stands, lone_column}
+use Rattle.ps_rowwise.proofs.Standing.{Stands}
 
 -- a cell for each row
 pub spreads : (node : ℕ) (T : Table) (t : Tree) → GoesByRow T.schema t → Stands T.rows (not (is_empty T.broken)) false (eval node T t) (cell_for node T.schema t)

@@ -1,11 +1,11 @@
 -- Columns that stand for functions of a row, and what becomes of them side by side.
-use Rattle.std.proofs.Common.{◌≡◌, ℕ, zero, suc, ◌≤◌, ◌<◌, min, List, [], ◌∷◌, ◌++◌, length, get_or, refl, sym, ap, subst, ◌∙◌, arith}
+use Rattle.std.proofs.Common.{◌≡◌, ℕ, zero, suc, ◌<◌, min, List, [], ◌∷◌, ◌++◌, length, get_or, refl, sym, ap, ◌∙◌, arith}
 use Rattle.std.proofs.lemmas.Bool.{eqb-true}
 use Rattle.std.proofs.lemmas.List.{get_or-map, length-map}
 use Rattle.std.proofs.lemmas.Simd.{map-map}
 use Rattle.std.specs.Prelude.{Bool, true, false, not, ◌&&◌, ◌||◌, ◌==◌, cond, map, filter, flat_map, fold, nat_le, nat_lt, if◌then◌else◌}
 use Rattle.std.specs.List.{AllByRecursion, list_all, list_any}
-use Rattle.ps_frame.specs.Causes.{Cause, Cell, Column, value, column_causes, is_empty, is_ended}
+use Rattle.ps_frame.specs.Causes.{Cell, Column, value, column_causes, is_empty, is_ended}
 use Rattle.ps_frame.specs.Eval.{cell_of_row, cellwise}
 use Rattle.ps_frame.specs.Zip.{Extent, aligned, all_same, below, breaks_shape, broadcasts, cell_in_row, ended_lengths, ends_early, extent_of, extents, least_or, lengths_where, open_lengths, outgrows, unseen_causes, zip_causes, zip_length, zip_rows}
 use Rattle.ps_frame.specs.declared.value.Value.{Value}

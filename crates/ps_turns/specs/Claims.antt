@@ -38,6 +38,10 @@ taken_rows [] = []
 taken_rows (None ∷ slots) = taken_rows slots
 taken_rows (Some rs ∷ slots) = rs ++ taken_rows slots
 
+-- all rows that were kept, input by input
+abbrev pub all_taken : Progress → List (List Row)
+all_taken progress = map taken_rows progress.taken
+
 abbrev pub with_slot : (input : ℕ) → List (List (Option (List Row))) → List (List (Option (List Row)))
 with_slot i taken = slice_set taken i (get_or taken i [] ++ None ∷ [])
 
@@ -92,10 +96,6 @@ module _ (o : Options) (p : PhysicalNode) (ss : List Fields) where
   abbrev pub of_kept : (input : ℕ) → Progress → Next → Option Claim
   of_kept i progress next =
       option_map (λ m. record (of_morsel (record progress { taken = with_slot i progress.taken }) (keeps p) m.0 m.1) { schemas = get_or ss i [] ∷ [] }) next
-
-  -- all rows that were kept, input by input
-  abbrev pub all_taken : Progress → List (List Row)
-  all_taken progress = map taken_rows progress.taken
 
   -- the one row of a reduce, and a part of a group-by
   abbrev pub of_row : Progress → Option Claim

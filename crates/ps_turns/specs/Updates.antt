@@ -12,7 +12,7 @@ use Rattle.ps_meaning.specs.Steps.{JoinStep}
 use Rattle.ps_ports.specs.declared.port_state.PortState.{PortState}
 use Rattle.ps_ports.specs.Ports.{Sides, all_blocked, all_done, first_port, is_blocked, is_done, keeping_done, repeated, second_port}
 use Rattle.ps_ports.specs.declared.port_state.PortState.TheVariants as port
-use Rattle.ps_turns.specs.Claims.{owes_last, taken_rows}
+use Rattle.ps_turns.specs.Claims.{all_taken, owes_last}
 use Rattle.ps_turns.specs.Cuts.{is_exhausted}
 use Rattle.ps_turns.specs.Ends.{rows_at_end}
 use Rattle.ps_turns.specs.Heads.{Head, head_lengths, stored_rows}
@@ -65,11 +65,9 @@ stage_after o kind progress given =
 abbrev pub starts_giving : Options → PhysicalKind → Progress → Sides → Bool
 starts_giving o kind progress given = not (is_giving progress.stage) && is_giving (stage_after o kind progress given)
 
-abbrev pub stored_tables : List Fields → Progress → List (List Row)
-stored_tables ss progress = map stored_rows progress.stores
-
-abbrev pub all_taken : Progress → List (List Row)
-all_taken progress = map taken_rows progress.taken
+-- the rows that were stored, input by input
+abbrev pub stored_tables : Progress → List (List Row)
+stored_tables progress = map stored_rows progress.stores
 
 -- a map of a handed-in function whose input is done, whose output isn't, and whose table is missing
 abbrev pub is_waiting : PhysicalKind → Progress → Sides → Bool
@@ -78,8 +76,8 @@ is_waiting kind progress given = (is_user_map kind && (is_taking progress.stage 
 -- What a node makes where it starts to give: a table of its stored rows (but a map of a handed-in function has it by then; a negative slice goes by its count), or lists of keys.
 abbrev pub Makes : Functions → Options → PhysicalNode → PhysicalKind → List Fields → Progress → Progress → Type 0
 Makes F o p (in_memory_map step) ss a b =
-    (IsTrue (is_user_map (in_memory_map step)) × (b ≡ a)) ⊎ (IsTrue (not (is_user_map (in_memory_map step))) × (rs : List Row) × IsMade F p (whole_tables ss (stored_tables ss a)) rs × (b ≡ record a { made = Some rs }))
-Makes F o p (in_memory_join j) ss a b = (rs : List Row) × IsMade F p (whole_tables ss (stored_tables ss a)) rs × (b ≡ record a { made = Some rs })
+    (IsTrue (is_user_map (in_memory_map step)) × (b ≡ a)) ⊎ (IsTrue (not (is_user_map (in_memory_map step))) × (rs : List Row) × IsMade F p (whole_tables ss (stored_tables a)) rs × (b ≡ record a { made = Some rs }))
+Makes F o p (in_memory_join j) ss a b = (rs : List Row) × IsMade F p (whole_tables ss (stored_tables a)) rs × (b ≡ record a { made = Some rs })
 Makes F o p (group_by_node keys aggregates) ss a b = (lists : List (List Row)) × IsSplit p (whole_tables ss (all_taken a)) o.partitions lists × (b ≡ record a { lists = lists })
 Makes F o p (negative_slice back n) ss a b = b ≡ record a { made = Some (rows_at_end back n a.booked (stored_rows (get_or a.stores 0 []))) }
 Makes F o p _ ss a b = b ≡ a
@@ -92,7 +90,7 @@ Turns F o p ss given a b =
 
 -- a waiting map is filled with its table
 abbrev pub Fills : Functions → PhysicalNode → List Fields → Sides → Progress → Progress → Type 0
-Fills F p ss given a b = IsTrue (is_waiting p.kind a given) × (rs : List Row) × IsMade F p (whole_tables ss (stored_tables ss a)) rs × (b ≡ record a { made = Some rs })
+Fills F p ss given a b = IsTrue (is_waiting p.kind a given) × (rs : List Row) × IsMade F p (whole_tables ss (stored_tables a)) rs × (b ≡ record a { made = Some rs })
 
 -- Without extension, the heads of a zip can't agree: all inputs are done, the output isn't, and those that don't broadcast have several lengths.
 abbrev pub heads_differ : List Head → Sides → Bool
@@ -105,7 +103,7 @@ shape_fault p _ hs given = None
 -- a cause that breaks the table that an update or a fill would make
 abbrev pub BreaksTable : Functions → Options → PhysicalNode → List Fields → Sides → Progress → Cause → Type 0
 BreaksTable F o p ss given a c =
-    IsTrue (makes_table p.kind && (is_waiting p.kind a given || (starts_giving o p.kind a given && not (is_user_map p.kind)))) × IsBrokenOver F p (whole_tables ss (stored_tables ss a)) c
+    IsTrue (makes_table p.kind && (is_waiting p.kind a given || (starts_giving o p.kind a given && not (is_user_map p.kind)))) × IsBrokenOver F p (whole_tables ss (stored_tables a)) c
 
 -- a source, and what acts as one
 abbrev pub source_state : Bool → PortState → PortState

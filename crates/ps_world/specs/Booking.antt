@@ -4,12 +4,12 @@ use Rattle.ps_frame.specs.Causes.{Cause}
 use Rattle.ps_frame.specs.Functions.{Functions}
 use Rattle.ps_frame.specs.Tables.{Fields, IsWhole, Row, Table}
 use Rattle.ps_frame.specs.declared.value.DataType.TheVariants as data_type
-use Rattle.ps_meaning.specs.Cases.{end_of}
+use Rattle.ps_meaning.specs.Cases.{end_of, rows_table}
 use Rattle.ps_meaning.specs.Shape.{PhysicalBefore, PhysicalCase, PhysicalKind, PhysicalNode, as_step, filter_node, select_node, simple_projection, stream_map, streaming_slice, with_row_index}
 use Rattle.ps_turns.specs.Claims.{Claim}
 use Rattle.ps_turns.specs.Progress.{Progress}
 use Rattle.ps_turns.specs.Results.{IsResultOf}
-use Rattle.ps_turns.specs.Tables.{whole_table, whole_tables}
+use Rattle.ps_turns.specs.Tables.{whole_tables}
 use Rattle.ps_turns.specs.Tasks.{Answer}
 use Rattle.ps_turns.specs.Updates.{slice_is_over}
 use Rattle.ps_world.specs.Laws.{sent_by}
@@ -33,7 +33,7 @@ CaseAfter F p kind k T U = PhysicalCase F p (T ∷ []) U
 
 -- the node gives rows b over rows a that come behind so many
 abbrev pub GivesAfter : Functions → PhysicalNode → Fields → (before : ℕ) → List Row → List Row → Type 0
-GivesAfter F p s k a b = (U : Table) × CaseAfter F p p.kind k (whole_table s a) U × IsWhole U × (U.schema ≡ p.schema) × (U.rows ≡ b)
+GivesAfter F p s k a b = (U : Table) × CaseAfter F p p.kind k (rows_table s a) U × IsWhole U × (U.schema ≡ p.schema) × (U.rows ≡ b)
 
 -- a slice gives nothing more once it has booked all its rows
 abbrev pub IsFull : PhysicalKind → (before : ℕ) → Type 0
@@ -86,7 +86,7 @@ BeforeAfter F p kind k T U = PhysicalBefore F p (as_step kind) (T ∷ []) U
 -- What is proved of the faults of pieces: what breaks the node's case over a part of the rows breaks it over all of them, whatever ends these.
 abbrev pub FaultsByPart : Functions → PhysicalNode → Fields → Type 0
 FaultsByPart F p s =
-    (front a rest : List Row) (causes : List Cause) (U : Table) (c : Cause) → BeforeAfter F p p.kind (length front) (whole_table s a) U → Contains U.broken c
+    (front a rest : List Row) (causes : List Cause) (U : Table) (c : Cause) → BeforeAfter F p p.kind (length front) (rows_table s a) U → Contains U.broken c
     → (V : Table) × PhysicalBefore F p (as_step p.kind) (record { schema = s; rows = front ++ (a ++ rest); broken = causes } ∷ []) V × Contains V.broken c
 
 -- the kinds of passing nodes
@@ -116,7 +116,7 @@ StandsAt (Some rs ∷ slots) (suc k) front a = (more : List Row) × (front ≡ r
 
 -- a node gives no more rows than it takes
 abbrev pub GivesFewer : Functions → PhysicalNode → Fields → Type 0
-GivesFewer F p s = (k : ℕ) (a : List Row) (U : Table) → BeforeAfter F p p.kind k (whole_table s a) U → length U.rows ≤ length a
+GivesFewer F p s = (k : ℕ) (a : List Row) (U : Table) → BeforeAfter F p p.kind k (rows_table s a) U → length U.rows ≤ length a
 
 -- kinds that do: all that compute but a map, whose function may answer a row by many
 abbrev pub IsShort : PhysicalKind → Type 0

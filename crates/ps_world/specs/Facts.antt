@@ -10,7 +10,7 @@ use Rattle.ps_meaning.specs.Shape.{PhysicalKind, streaming_slice}
 use Rattle.ps_meaning.specs.Sound.{IsSound}
 use Rattle.ps_turns.specs.Updates.{slice_is_over}
 use Rattle.ps_world.specs.Opening.{pipes_from}
-use Rattle.ps_world.specs.World.{Node, Pipe, World, counts_for_sender, is_bounded, is_cut_off, is_drained, multiplexes, running, shape_of}
+use Rattle.ps_world.specs.World.{IsWorking, Node, Pipe, World, counts_for_sender, is_bounded, is_cut_off, is_drained, multiplexes, running, shape_of}
 
 -- the ports that a pipe joins
 pub record Joins : Type 0 where
@@ -21,10 +21,6 @@ pub record Joins : Type 0 where
 
 abbrev pub joins_of : Pipe → Joins
 joins_of p = record { sender = p.wire.sender; port = p.wire.port; receiver = p.wire.receiver; input = p.wire.input }
-
--- the node stands in the open phase and isn't closed
-abbrev pub IsWorking : World → ℕ → Type 0
-IsWorking w n = (node : Node) × (slice_get w.nodes n ≡ Some node) × IsTrue (w.is_open && (node.in_phase && not node.is_closed))
 
 abbrev pub keeps_one : Task → Bool
 keeps_one (keeps p) = Bool.true

@@ -16,7 +16,7 @@ use Rattle.ps_meaning.specs.Cases.{schemas_of}
 use Rattle.ps_meaning.specs.Shape.{as_step, equi_join, in_memory_sink, IsLargeByStep, IsPhysicalChoice, PhysicalBefore, PhysicalCase, PhysicalKind, PhysicalNode, Shape, tables_for}
 use Rattle.ps_meaning.specs.Sound.{input_schemas, IsSound}
 use Rattle.ps_options.specs.declared.options.Options.{Options}
-use Rattle.ps_world.specs.World.{Pipe, Node, Record, World, handed_in, opened, pulled, faulty, running, rows_in_order, has_next, is_over, has_place, shape_of, wires_of}
+use Rattle.ps_world.specs.World.{IsWorking, Pipe, Node, Record, World, handed_in, opened, pulled, faulty, running, rows_in_order, has_next, is_over, has_place, shape_of, wires_of}
 use Rattle.ps_world.specs.Opening.{opening}
 use Rattle.ps_world.specs.Step.{Steps}
 use Rattle.ps_world.specs.Updates.{FaultFound, IsSettled, Updates}
@@ -107,9 +107,6 @@ MakesFault F w (pulled m i number) n c = (m ≡ n) × (v : World) × Steps F w (
 MakesFault F w _ n c = ⊥
 
 -- SECOND PART. A node of the open phase that isn't closed may move, has a piece out, or waits for one input or one output.
-abbrev pub IsUnclosed : World → ℕ → Type 0
-IsUnclosed w n = (node : Node) × (slice_get w.nodes n ≡ Some node) × IsTrue (w.is_open && (node.in_phase && not node.is_closed))
-
 abbrev pub IsOut : World → Type 0
 IsOut w = w.outs ≢ []
 
@@ -126,16 +123,16 @@ IsFull w p = Contains w.pipes p × IsTrue p.in_phase × IsFalse (has_place w p)
 
 abbrev pub Progresses : Functions → World → ℕ → Type 0
 Progresses F w n =
-    IsUnclosed w n →
+    IsWorking w n →
     MayStep F w ⊎ IsOut w ⊎ ((p : Pipe) × (p.wire.receiver ≡ n) × IsStarved w p) ⊎ ((p : Pipe) × (p.wire.sender ≡ n) × IsFull w p)
 
 -- What every reached world keeps of the pipes of its open phase.
 pub record PhaseFacts (w : World) : Type 0 where
   pub forward : (p : Pipe) → Contains w.pipes p → p.wire.sender < p.wire.receiver
   -- what may still come has a sender that isn't closed
-  pub starved_sender : (p : Pipe) → IsStarved w p → IsUnclosed w p.wire.sender
+  pub starved_sender : (p : Pipe) → IsStarved w p → IsWorking w p.wire.sender
   -- where no piece is out, a pipe without a place has a next morsel, and its reader isn't closed
-  pub full_reader : (p : Pipe) → IsFull w p → w.outs ≡ [] → IsUnclosed w p.wire.receiver × IsTrue (has_next p)
+  pub full_reader : (p : Pipe) → IsFull w p → w.outs ≡ [] → IsWorking w p.wire.receiver × IsTrue (has_next p)
   -- a node that may wait for an output has that one alone
   pub one_output : (p q : Pipe) → IsStarved w p → IsFull w q → p.wire.sender ≡ q.wire.sender → p ≡ q
 

@@ -119,6 +119,10 @@ counts_for_sender w p = p.in_phase || (multiplexes (slice_get w.nodes p.wire.sen
 abbrev pub live_outs : World → ℕ → List Pipe
 live_outs w n = kept (counts_for_sender w) (pipes_out w n)
 
+-- the node stands in the open phase and isn't closed
+abbrev pub IsWorking : World → ℕ → Type 0
+IsWorking w n = (node : Node) × (slice_get w.nodes n ≡ Some node) × IsTrue (w.is_open && (node.in_phase && not node.is_closed))
+
 -- all its outgoing pipes of the phase are dropped, and it has one
 abbrev pub is_cut_off : World → ℕ → Bool
 is_cut_off w n = not (is_empty (live_outs w n)) && list_all (λ (p : Pipe). p.is_dropped) (live_outs w n)

@@ -6,9 +6,9 @@ use Rattle.pu_base.specs.declared.arena.Node.{Node}
 use Rattle.text_plans.specs.Arenas.{KeepsTrees}
 use Rattle.ps_frame.specs.Trees.{Tree, IsComplete, tree_at}
 use Rattle.ps_frame.specs.declared.expr.AExpr.{AExpr}
-use Rattle.ps_meaning.specs.PlanTrees.{PlanTree, node, PlanTrees, IsCompletePlan, AreCompletePlans}
+use Rattle.ps_meaning.specs.PlanTrees.{PlanTree, node, IsCompletePlan, AreCompletePlans}
 use Rattle.ps_meaning.specs.PlanTrees as plan
-use Rattle.ps_meaning.specs.Steps.{Named, Step, exprs_of, key_trees, name_in, named_trees, step_exprs}
+use Rattle.ps_meaning.specs.Steps.{exprs_of, key_trees, name_in, named_trees, step_exprs}
 use Rattle.ps_meaning.specs.Steps as step
 use Rattle.ps_meaning.specs.declared.options.ExprIR.{ExprIR}
 use Rattle.ps_plan.proofs.Unfolding.{plan_within-more}

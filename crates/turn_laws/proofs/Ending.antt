@@ -11,9 +11,10 @@ use Rattle.ps_ports.specs.Ports.{Sides}
 use Rattle.ps_turns.specs.Ends.{rows_at_end}
 use Rattle.ps_turns.specs.Heads.{Head, stored_rows}
 use Rattle.ps_turns.specs.Progress.{Progress, giving, is_giving, is_user_map, makes_table}
+use Rattle.ps_turns.specs.Claims.{all_taken}
 use Rattle.ps_turns.specs.Results.{IsBrokenOver, IsMade}
 use Rattle.ps_turns.specs.Tables.{whole_tables}
-use Rattle.ps_turns.specs.Updates.{BreaksTable, Makes, Turns, all_taken, answer_of, is_waiting, shape_fault, stage_after, starts_giving, stored_tables}
+use Rattle.ps_turns.specs.Updates.{BreaksTable, Makes, Turns, answer_of, is_waiting, shape_fault, stage_after, starts_giving, stored_tables}
 use Rattle.turn_laws.specs.Updating.{FilledTo, FillsAndUpdates, FindsFault, HasPorts, SeenNode, heads_seen}
 use Rattle.turn_laws.proofs.Making.{made_or_broken, split_keys}
 use Rattle.turn_laws.proofs.Turned.{Waits, fills_stage, waits}
@@ -32,7 +33,7 @@ module _ (F : Functions) (o : Options) (a : SeenNode) (given : Sides) where
   abbrev Made : PhysicalKind → Progress → Type 0
   Made kind progress =
       ((c : Progress) × Makes F o a.node kind a.schemas progress c)
-      ⊎ ((x : Cause) × IsTrue (makes_table kind && not (is_user_map kind)) × IsBrokenOver F a.node (whole_tables a.schemas (stored_tables a.schemas progress)) x)
+      ⊎ ((x : Cause) × IsTrue (makes_table kind && not (is_user_map kind)) × IsBrokenOver F a.node (whole_tables a.schemas (stored_tables progress)) x)
 
   user_makes : (kind : PhysicalKind) (progress : Progress) → is_user_map kind ≡ true → Makes F o a.node kind a.schemas progress progress
   user_makes (in_memory_map step) progress e = inl (e, refl)
@@ -40,8 +41,8 @@ module _ (F : Functions) (o : Options) (a : SeenNode) (given : Sides) where
 
   module _ (fit : HasFitParameters F a.node.kind) where
     table : (progress : Progress) → makes_table a.node.kind ≡ true
-        → ((rs : List Row) × IsMade F a.node (whole_tables a.schemas (stored_tables a.schemas progress)) rs) ⊎ ((c : Cause) × IsBrokenOver F a.node (whole_tables a.schemas (stored_tables a.schemas progress)) c)
-    table progress makes = made_or_broken F a.node (whole_tables a.schemas (stored_tables a.schemas progress)) fit makes
+        → ((rs : List Row) × IsMade F a.node (whole_tables a.schemas (stored_tables progress)) rs) ⊎ ((c : Cause) × IsBrokenOver F a.node (whole_tables a.schemas (stored_tables progress)) c)
+    table progress makes = made_or_broken F a.node (whole_tables a.schemas (stored_tables progress)) fit makes
 
     makes : (progress : Progress) (kind : PhysicalKind) → a.node.kind ≡ kind → Made kind progress
     makes progress (in_memory_map step) is = by (decided (is_user_map (in_memory_map step)))
@@ -64,13 +65,13 @@ module _ (F : Functions) (o : Options) (a : SeenNode) (given : Sides) where
     turns : (progress : Progress)
         → ((b : Progress) × Turns F o a.node a.schemas given progress b)
         ⊎ ((c : Cause) × IsTrue (starts_giving o a.node.kind progress given) × IsTrue (makes_table a.node.kind && not (is_user_map a.node.kind))
-        × IsBrokenOver F a.node (whole_tables a.schemas (stored_tables a.schemas progress)) c)
+        × IsBrokenOver F a.node (whole_tables a.schemas (stored_tables progress)) c)
     turns progress = by (decided (starts_giving o a.node.kind progress given))
       where
         by : (starts_giving o a.node.kind progress given ≡ true) ⊎ (starts_giving o a.node.kind progress given ≡ false)
             → ((b : Progress) × Turns F o a.node a.schemas given progress b)
             ⊎ ((c : Cause) × IsTrue (starts_giving o a.node.kind progress given) × IsTrue (makes_table a.node.kind && not (is_user_map a.node.kind))
-            × IsBrokenOver F a.node (whole_tables a.schemas (stored_tables a.schemas progress)) c)
+            × IsBrokenOver F a.node (whole_tables a.schemas (stored_tables progress)) c)
         by (inl e) = elim (makes progress a.node.kind refl) [ inl (c, m) ↦ inl (record c { stage = giving }, inr (e, c, m, refl)) | inr (x, t, b) ↦ inr (x, e, t, b) ]
         by (inr e) = inl (record progress { stage = stage_after o a.node.kind progress given }, inl (ap not e, refl))
 
@@ -79,7 +80,7 @@ module _ (F : Functions) (o : Options) (a : SeenNode) (given : Sides) where
 
     module _ (ports : HasPorts a given) (agrees : shape_fault a.node a.node.kind (heads_seen a given) given ≡ None) where
       -- what breaks the table of a node: one that waits for it, or one that starts to give
-      breaks_waiting : (c : Cause) → IsTrue (is_waiting a.node.kind a.progress given) → IsBrokenOver F a.node (whole_tables a.schemas (stored_tables a.schemas a.progress)) c → BreaksTable F o a.node a.schemas given a.progress c
+      breaks_waiting : (c : Cause) → IsTrue (is_waiting a.node.kind a.progress given) → IsBrokenOver F a.node (whole_tables a.schemas (stored_tables a.progress)) c → BreaksTable F o a.node a.schemas given a.progress c
       breaks_waiting c w b =
           let known : Waits a.node.kind a.progress given = waits a.node.kind a.progress given w in
           ((λ i. waits_for_table a.node.kind known.is_map i && (w i || (starts_giving o a.node.kind a.progress given && not (is_user_map a.node.kind)))), b)

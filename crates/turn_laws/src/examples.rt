@@ -6,7 +6,7 @@ ghost use Rattle.ps_options.specs.declared.options.Options.{Options};
 ghost use Rattle.ps_ports.specs.Examples.{sides};
 ghost use Rattle.ps_ports.specs.declared.port_state.PortState.TheVariants as port;
 ghost use Rattle.ps_turns.specs.Results.{IsMade};
-ghost use Rattle.ps_turns.specs.Tables.{whole_table};
+ghost use Rattle.ps_meaning.specs.Cases.{rows_table};
 ghost use Rattle.turn_laws.specs.Examples.{a_filled_map, a_map, a_projection, a_schema, a_zip, row, shape_cause, two_inputs};
 ghost use Rattle.turn_laws.specs.Updating.{FillsAndUpdates, FindsFault, HasPorts, SeenNode, UpdatesTo, heads_seen, stages_behind};
 
@@ -26,7 +26,7 @@ pub fn a_zip_sees_its_heads()
 
 /// A map of a handed-in function, whose input is done: filled with its table it gives, and has one stage behind it. Without, it goes on taking.
 pub fn a_map_is_filled()
-    ensures filled { (F : Functions) (o : Options) (rs : List Row) → IsMade F a_map.node (whole_table a_schema (row 1 ∷ []) ∷ []) rs → FillsAndUpdates F o a_map (sides port.Done port.Ready) (a_filled_map rs) (sides port.Done port.Ready) }
+    ensures filled { (F : Functions) (o : Options) (rs : List Row) → IsMade F a_map.node (rows_table a_schema (row 1 ∷ []) ∷ []) rs → FillsAndUpdates F o a_map (sides port.Done port.Ready) (a_filled_map rs) (sides port.Done port.Ready) }
     ensures stages { (stages_behind a_map ≡ 0) × ((rs : List Row) → stages_behind (a_filled_map rs) ≡ 1) }
     ensures waits { (F : Functions) (o : Options) → UpdatesTo F o a_map (sides port.Done port.Ready) a_map (sides port.Done port.Blocked) }
 {}

@@ -5,8 +5,7 @@ use Rattle.ps_meaning.specs.Shape.{PhysicalNode}
 use Rattle.ps_ports.specs.Ports.{is_blocked, is_ready}
 use Rattle.ps_ports.specs.Wires.{Wire, both_ready}
 use Rattle.ps_turns.specs.Progress.{is_multiplexer}
-use Rattle.ps_world.specs.Facts.{IsWorking}
-use Rattle.ps_world.specs.World.{Node, Pipe, World, multiplexes}
+use Rattle.ps_world.specs.World.{Node, Pipe, World, multiplexes, IsWorking}
 use Rattle.world_facts.proofs.CutOff.{and_true, both_true}
 use Rattle.world_laws.proofs.Agree.{from_map}
 use Rattle.world_laws.proofs.InOrder.{contains_map}

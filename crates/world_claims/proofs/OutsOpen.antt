@@ -21,11 +21,11 @@ use Rattle.ps_turns.specs.Claims.{owes_last}
 use Rattle.ps_turns.specs.Heads.{Head}
 use Rattle.ps_turns.specs.Progress.{Progress, Stage, giving, is_multiplexer, is_taking, spent, taking}
 use Rattle.ps_turns.specs.Updates.{answer_by, done_on_both, has_given_all, join_answer, keeper_answer, slice_is_over, union_inputs, union_output, zip_answer, zip_is_over}
-use Rattle.ps_world.specs.Facts.{Facts, IsWorking}
+use Rattle.ps_world.specs.Facts.{Facts}
 use Rattle.ps_world.specs.Phases.{after_fault, after_open, blockers_in, intensive_at, marked_nodes, nodes_of_phase, with_phase}
 use Rattle.ps_world.specs.Step.{Opens, breaks, settles}
 use Rattle.ps_world.specs.Updates.{IsSettled, answer_at, empty_outs, given_at}
-use Rattle.ps_world.specs.World.{Node, Pipe, World, finished, heads_of, multiplexes, wires_of}
+use Rattle.ps_world.specs.World.{Node, Pipe, World, finished, heads_of, multiplexes, wires_of, IsWorking}
 use Rattle.world_facts.proofs.CutOff.{and_true, both_true, its_number}
 use Rattle.world_facts.proofs.Placing.{answered, has_inputs, has_readers, in_place, map_length}
 use Rattle.world_facts.proofs.Slots.{all_at, some_at}

@@ -7,8 +7,8 @@ use Rattle.ps_ports.specs.Ports.{is_blocked, is_done, is_ready}
 use Rattle.ps_ports.specs.Wires.{both_ready}
 use Rattle.ps_turns.specs.Progress.{Progress, Stage, is_multiplexer, is_taking}
 use Rattle.ps_turns.specs.Updates.{turns}
-use Rattle.ps_world.specs.Facts.{Facts, IsWorking}
-use Rattle.ps_world.specs.World.{Node, Pipe, World, multiplexes}
+use Rattle.ps_world.specs.Facts.{Facts}
+use Rattle.ps_world.specs.World.{Node, Pipe, World, multiplexes, IsWorking}
 
 -- what gives its morsels under numbers of its own
 abbrev pub counts_own : PhysicalKind → Bool

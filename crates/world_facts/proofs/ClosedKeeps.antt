@@ -1,8 +1,8 @@
 -- A node that closes keeps the facts: nothing is left in its inputs, and nothing of it is out.
 use Rattle.std.proofs.Common.{◌≡◌, ◌≢◌, ℕ, zero, suc, ◌<◌, ◌+◌, ◌-◌, ◌≤◌, ◌⊎◌, Bool, true, false, cond, List, [], ◌∷◌, length, Option, Some, None, refl, sym, ap, subst, ◌∙◌, inl, inr, arith}
-use Rattle.std.specs.Prelude.{Contains, IsFalse, IsTrue, drop, is_some, map, nat_eq, nat_lt, not, slice_get, slice_set, ◌&&◌, ◌||◌}
+use Rattle.std.specs.Prelude.{Contains, IsTrue, drop, is_some, nat_eq, nat_lt, not, slice_get, ◌&&◌, ◌||◌}
 use Rattle.std.specs.List.{count_by, fold, filter as kept, list_all}
-use Rattle.std.proofs.lemmas.Bool.{and_right, cases_eq, cases_lt, or_from}
+use Rattle.std.proofs.lemmas.Bool.{cases_eq, cases_lt}
 use Rattle.std.proofs.lemmas.Bool.Decides.{nat_tests}
 use Rattle.std.proofs.lemmas.Option.{slice_get-get_or}
 use Rattle.ps_frame.specs.Functions.{Functions}
@@ -10,9 +10,9 @@ use Rattle.ps_frame.specs.Tables.{Row}
 use Rattle.ps_ports.specs.Ports.{is_done}
 use Rattle.ps_turns.specs.Tasks.{Piece}
 use Rattle.ps_world.specs.Closing.{HasFinished, after_close, inputs_over}
-use Rattle.ps_world.specs.Facts.{Facts, FactsDownTo, IsAwaited, IsExpected, IsWorking, PipeFacts, is_filled_by, keeps_one, slots_of}
+use Rattle.ps_world.specs.Facts.{Facts, IsAwaited, PipeFacts, is_filled_by, slots_of}
 use Rattle.ps_world.specs.Step.{Steps}
-use Rattle.ps_world.specs.World.{Node, Pipe, World, closed, counts_for_sender, is_bounded, is_cut_off, is_drained, is_over, pieces_of, running, waiting}
+use Rattle.ps_world.specs.World.{Node, Pipe, World, closed, counts_for_sender, is_bounded, is_cut_off, is_drained, is_over, pieces_of, running, waiting, IsWorking}
 use Rattle.world_facts.proofs.CutOff.{and_true, both_true, cut_off_same, its_number, same_number}
 use Rattle.world_laws.proofs.InOrder.{contains_kept, list_all-in_order, none_in_nil}
 use Rattle.world_facts.proofs.Kin.{Base, Kin, base, came_from, multiplexes_kin, no_use_kin}

@@ -1,6 +1,6 @@
 -- In a settled world what is dropped is done at its reader: a slice that has its rows says so, and so does a node all of whose readers are done.
 use Rattle.std.proofs.Common.{◌≡◌, ℕ, zero, suc, ◌<◌, ◌+◌, ◌≤◌, ◌⊎◌, Bool, true, false, cond, List, [], ◌∷◌, length, Some, refl, sym, ap, subst, ◌∙◌, inl, inr, arith}
-use Rattle.std.specs.Prelude.{Contains, IsFalse, IsTrue, get_or, map, nat_eq, not, option_map, slice_get, ◌&&◌, ◌||◌}
+use Rattle.std.specs.Prelude.{Contains, IsFalse, IsTrue, get_or, map, nat_eq, option_map, slice_get, ◌&&◌, ◌||◌}
 use Rattle.std.specs.List.{filter as kept, list_all}
 use Rattle.std.proofs.lemmas.Option.{get_or_from_slice_get, slice_get-get_or, slice_get-map, slice_get_within}
 use Rattle.ps_frame.specs.Functions.{Functions}

@@ -1,7 +1,7 @@
 -- Drops keep the facts: an input that is dropped has a reader without use for it, and from the last node to the first all that feeds a node that is cut off is dropped with it.
 use Rattle.std.proofs.Common.{◌≡◌, ◌≢◌, ℕ, zero, suc, ◌<◌, ◌≤◌, ◌⊎◌, Bool, true, false, cond, List, length, Option, Some, None, refl, sym, ap, subst, ◌∙◌, inl, inr, arith}
 use Rattle.std.specs.Prelude.{Contains, IsTrue, nat_eq, not, slice_get, slice_set, ◌&&◌, ◌||◌}
-use Rattle.std.proofs.lemmas.Bool.{cases_Bool, cases_eq, cases_lt, or_left, or_right}
+use Rattle.std.proofs.lemmas.Bool.{cases_eq, cases_lt, or_left, or_right}
 use Rattle.ps_frame.specs.Functions.{Functions}
 use Rattle.ps_ports.specs.Ports.{is_done}
 use Rattle.ps_ports.specs.Wires.{Wire}

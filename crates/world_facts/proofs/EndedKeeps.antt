@@ -5,9 +5,9 @@ use Rattle.std.specs.List.{AllByRecursion}
 use Rattle.ps_frame.specs.Functions.{Functions}
 use Rattle.ps_turns.specs.Tasks.{Piece}
 use Rattle.ps_world.specs.Closing.{after_end}
-use Rattle.ps_world.specs.Facts.{Facts, IsAwaited, IsWorking, PipeFacts}
+use Rattle.ps_world.specs.Facts.{Facts, IsAwaited, PipeFacts}
 use Rattle.ps_world.specs.Step.{Steps}
-use Rattle.ps_world.specs.World.{Node, Pipe, World, ended, is_bounded, is_drained, running}
+use Rattle.ps_world.specs.World.{Node, Pipe, World, ended, is_bounded, is_drained, running, IsWorking}
 use Rattle.world_facts.proofs.CutOff.{both_true}
 use Rattle.world_facts.proofs.Kin.{Kin, base, came_from, multiplexes_kin, no_use_kin}
 use Rattle.world_laws.proofs.Shapes.{unmarked_keep}

@@ -10,9 +10,9 @@ use Rattle.ps_ports.specs.Wires.{Wire, both_ready}
 use Rattle.ps_turns.specs.Progress.{is_multiplexer}
 use Rattle.ps_turns.specs.Tasks.{Piece}
 use Rattle.ps_meaning.specs.Shape.{PhysicalNode}
-use Rattle.ps_world.specs.Facts.{FactsDownTo, HasNoUse, IsAwaited, IsExpected, IsWorking, PipeFacts, is_filled_by, is_over_slice, joins_of, keeps_one, Joins}
+use Rattle.ps_world.specs.Facts.{FactsDownTo, HasNoUse, IsAwaited, IsExpected, PipeFacts, is_filled_by, is_over_slice, joins_of, keeps_one, Joins}
 use Rattle.ps_world.specs.Opening.{pipes_from}
-use Rattle.ps_world.specs.World.{Node, Pipe, World, counts_for_sender, is_bounded, is_cut_off, is_drained, multiplexes, running, shape_of}
+use Rattle.ps_world.specs.World.{Node, Pipe, World, counts_for_sender, is_bounded, is_cut_off, is_drained, multiplexes, running, shape_of, IsWorking}
 use Rattle.world_laws.proofs.Agree.{from_map}
 use Rattle.world_laws.proofs.InOrder.{contains_map}
 

@@ -9,8 +9,8 @@ use Rattle.ps_frame.specs.Functions.{Functions}
 use Rattle.ps_frame.specs.Tables.{Row}
 use Rattle.ps_turns.specs.Tasks.{Piece}
 use Rattle.ps_world.specs.Facts.{FactsDownTo, IsAwaited, PipeFacts}
-use Rattle.ps_world.specs.Laws.{IsForward, IsFull, IsStarved, IsUnclosed}
-use Rattle.ps_world.specs.World.{Node, Pipe, World, gives_on, has_next, is_bounded, is_drained, places_taken, room, running, shape_of, waiting}
+use Rattle.ps_world.specs.Laws.{IsForward, IsFull, IsStarved}
+use Rattle.ps_world.specs.World.{Node, Pipe, World, gives_on, has_next, is_bounded, is_drained, places_taken, room, running, shape_of, waiting, IsWorking}
 use Rattle.world_laws.proofs.InOrder.{none_in_nil}
 
 module _ {k : ℕ} (F : Functions) (w : World) (f : FactsDownTo F k w) where
@@ -50,7 +50,7 @@ module _ {k : ℕ} (F : Functions) (w : World) (f : FactsDownTo F k w) where
       let counted = none_counted (λ (q : Piece). nat_eq q.node p.wire.receiver && nat_eq q.input p.wire.input) (gives_on w p.wire.receiver) none in
       (a.0, omega arith)
 
-  pub full_reader : w.ending ≡ running → (p : Pipe) → IsFull w p → w.outs ≡ [] → IsUnclosed w p.wire.receiver × IsTrue (has_next p)
+  pub full_reader : w.ending ≡ running → (p : Pipe) → IsFull w p → w.outs ≡ [] → IsWorking w p.wire.receiver × IsTrue (has_next p)
   full_reader runs p full none =
       let h = full_has p full none in
       let facts = f.pipes p full.0 in
@@ -86,7 +86,7 @@ module _ {k : ℕ} (F : Functions) (w : World) (f : FactsDownTo F k w) where
           absurd (let no : true ≡ false = sym same ∙ e in cc)
 
   -- the sender of a starved pipe isn't closed
-  pub starved_sender : w.ending ≡ running → (p : Pipe) → IsStarved w p → IsUnclosed w p.wire.sender
+  pub starved_sender : w.ending ≡ running → (p : Pipe) → IsStarved w p → IsWorking w p.wire.sender
   starved_sender runs p starved = by p.is_closed refl
     where
       facts : PipeFacts w p
@@ -95,16 +95,16 @@ module _ {k : ℕ} (F : Functions) (w : World) (f : FactsDownTo F k w) where
       over : (p.is_dropped ≡ false) × ((p.is_closed && nat_eq (waiting p) 0) ≡ false)
       over = or_false p.is_dropped (p.is_closed && nat_eq (waiting p) 0) starved.3
 
-      of_slot : (o : Option (Option (List Row))) → slice_get p.got p.next ≡ o → p.next < length p.got → IsUnclosed w p.wire.sender
+      of_slot : (o : Option (Option (List Row))) → slice_get p.got p.next ≡ o → p.next < length p.got → IsWorking w p.wire.sender
       of_slot None e h = absurd (let there = slice_get-get_or p.got p.next None h in let no : None ≡ Some (get_or p.got p.next None) = sym e ∙ there in cc)
       of_slot (Some (Some rs)) e h = absurd (let next : has_next p ≡ true = rw (over.0, e) refl in let no : true ≡ false = sym next ∙ starved.2 in cc)
       of_slot (Some None) e h = expected_by (facts.expected runs p.next e)
         where
-          expected_by : IsTrue p.is_dropped ⊎ IsTrue p.in_phase × IsAwaited w p.wire.sender p.next → IsUnclosed w p.wire.sender
+          expected_by : IsTrue p.is_dropped ⊎ IsTrue p.in_phase × IsAwaited w p.wire.sender p.next → IsWorking w p.wire.sender
           expected_by (inl dropped) = absurd (let no : false ≡ true = sym over.0 ∙ dropped in cc)
-          expected_by (inr (ph, q)) = subst (λ n. IsUnclosed w n) q.2 (f.at_work q.0 q.1)
+          expected_by (inr (ph, q)) = subst (λ n. IsWorking w n) q.2 (f.at_work q.0 q.1)
 
-      by : (b : Bool) → p.is_closed ≡ b → IsUnclosed w p.wire.sender
+      by : (b : Bool) → p.is_closed ≡ b → IsWorking w p.wire.sender
       by false e = facts.closed_with_sender starved.1 e
       by true e =
           let left : nat_eq (waiting p) 0 ≡ false = sym (ap (λ b. b && nat_eq (waiting p) 0) e) ∙ over.1 in

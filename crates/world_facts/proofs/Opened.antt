@@ -11,9 +11,9 @@ use Rattle.ps_ports.specs.Phases.{all_feeders, blockers_of, is_in_phase, is_one_
 use Rattle.ps_ports.specs.Ports.{is_done, is_ready}
 use Rattle.ps_ports.specs.Wires.{Wire, both_ready}
 use Rattle.ps_turns.specs.Tasks.{Piece}
-use Rattle.ps_world.specs.Facts.{Facts, IsAwaited, IsWorking, PipeFacts}
+use Rattle.ps_world.specs.Facts.{Facts, IsAwaited, PipeFacts}
 use Rattle.ps_world.specs.Phases.{intensive_at, marked_nodes, nodes_of_phase, with_phase}
-use Rattle.ps_world.specs.World.{Node, Pipe, World, counts_for_sender, is_bounded, is_cut_off, is_drained, multiplexes, wires_of}
+use Rattle.ps_world.specs.World.{Node, Pipe, World, counts_for_sender, is_cut_off, multiplexes, wires_of, IsWorking}
 use Rattle.world_laws.proofs.Blockers.{contains_below}
 use Rattle.std.proofs.lemmas.List.Elements.{Contains-append_cases}
 use Rattle.world_facts.proofs.CutOff.{and_true, both_true, cut_all, cut_some, its_number, same_number}

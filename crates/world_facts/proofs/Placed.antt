@@ -10,10 +10,10 @@ use Rattle.ps_ports.specs.Ports.{is_done}
 use Rattle.ps_turns.specs.Claims.{Claim}
 use Rattle.ps_turns.specs.Tasks.{Piece}
 use Rattle.ps_world.specs.Claims.{IsFree, piece_of}
-use Rattle.ps_world.specs.Facts.{FactsDownTo, IsAwaited, IsExpected, IsWorking, PipeFacts, is_filled_by, keeps_one, slots_of}
+use Rattle.ps_world.specs.Facts.{FactsDownTo, IsAwaited, IsExpected, PipeFacts, is_filled_by, keeps_one, slots_of}
 use Rattle.ps_world.specs.Fits.{Fits}
 use Rattle.ps_world.specs.Pipes.{change_pipes, with_place}
-use Rattle.ps_world.specs.World.{Node, Pipe, World, bounded_out, claimed, counts_for_sender, is_bounded, is_drained, multiplexes, running}
+use Rattle.ps_world.specs.World.{Node, Pipe, World, bounded_out, claimed, counts_for_sender, is_bounded, is_drained, multiplexes, running, IsWorking}
 use Rattle.world_facts.proofs.CutOff.{and_true, both_true, its_number, same_number}
 use Rattle.world_facts.proofs.Follows.{Follows, HasMarksOf, IsLike, OwesPieces, OwesPipe, follow, multiplexes_same, still_no_use, working}
 use Rattle.world_laws.proofs.InOrder.{contains_cases, contains_first, contains_later}

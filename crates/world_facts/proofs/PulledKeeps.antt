@@ -8,11 +8,11 @@ use Rattle.ps_meaning.specs.Shape.{PhysicalKind, equi_join, filter_node, group_b
 use Rattle.ps_ports.specs.Ports.{is_done}
 use Rattle.ps_turns.specs.Progress.{Progress, is_multiplexer}
 use Rattle.ps_turns.specs.Pulls.{after_store}
-use Rattle.ps_world.specs.Facts.{Facts, IsAwaited, IsWorking, PipeFacts, is_over_slice, slots_of}
+use Rattle.ps_world.specs.Facts.{Facts, IsAwaited, PipeFacts, is_over_slice, slots_of}
 use Rattle.ps_world.specs.Pipes.{change_pipes, is_input, with_morsel}
 use Rattle.ps_world.specs.Pulls.{after_pull, is_open_port}
 use Rattle.ps_world.specs.Step.{Steps}
-use Rattle.ps_world.specs.World.{Node, Pipe, World, is_bounded, is_drained, multiplexes, pulled, running}
+use Rattle.ps_world.specs.World.{Node, Pipe, World, is_bounded, is_drained, multiplexes, pulled, running, IsWorking}
 use Rattle.world_facts.proofs.CutOff.{both_true, same_number}
 use Rattle.world_facts.proofs.Follows.{Follows, HasMarksOf, IsLike, OwesPipe, follow, multiplexes_same, still_no_use, working}
 use Rattle.world_laws.proofs.Shapes.{shown_set}

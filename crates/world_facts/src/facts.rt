@@ -8,11 +8,11 @@ ghost use Rattle.ps_ports.specs.Wires.{Wire};
 ghost use Rattle.ps_turns.specs.Tasks.{Handed, Piece};
 ghost use Rattle.ps_world.specs.Facts.{Facts};
 ghost use Rattle.ps_world.specs.Fits.{ClaimsFit, DropsAreDone};
-ghost use Rattle.ps_world.specs.Laws.{EndsAgree, IsForward, IsFull, IsStarved, IsUnclosed};
+ghost use Rattle.ps_world.specs.Laws.{EndsAgree, IsForward, IsFull, IsStarved};
 ghost use Rattle.ps_world.specs.Opening.{opening};
 ghost use Rattle.ps_world.specs.Step.{Opens, Steps};
 ghost use Rattle.ps_world.specs.Updates.{IsSettled, Updates};
-ghost use Rattle.ps_world.specs.World.{Node, Pipe, World, claimed, closed, ended, handed_in, has_next, pulled, running, shape_of, wires_of};
+ghost use Rattle.ps_world.specs.World.{Node, Pipe, World, claimed, closed, ended, handed_in, has_next, pulled, running, shape_of, wires_of, IsWorking};
 
 /// A claim that fits what it names keeps the facts.
 pub fn claims_keep()
@@ -65,6 +65,6 @@ pub fn facts_of_phases()
     ensures forward { (F : Functions) (w : World) → Facts F w → IsForward (shape_of w) }
     ensures wires { (F : Functions) (w : World) → Facts F w → (p : Wire) → Contains (wires_of w) p → (p.sender < p.receiver) × (p.receiver < length w.nodes) }
     ensures pieces { (F : Functions) (w : World) → Facts F w → (q : Piece) → Contains w.outs q → (w.is_open ≡ true) × ((node : Node) × (slice_get w.nodes q.node ≡ Some node)) }
-    ensures starved { (F : Functions) (w : World) → Facts F w → w.ending ≡ running → (p : Pipe) → IsStarved w p → IsUnclosed w p.wire.sender }
-    ensures full { (F : Functions) (w : World) → Facts F w → w.ending ≡ running → (p : Pipe) → IsFull w p → w.outs ≡ [] → IsUnclosed w p.wire.receiver × IsTrue (has_next p) }
+    ensures starved { (F : Functions) (w : World) → Facts F w → w.ending ≡ running → (p : Pipe) → IsStarved w p → IsWorking w p.wire.sender }
+    ensures full { (F : Functions) (w : World) → Facts F w → w.ending ≡ running → (p : Pipe) → IsFull w p → w.outs ≡ [] → IsWorking w p.wire.receiver × IsTrue (has_next p) }
 {}

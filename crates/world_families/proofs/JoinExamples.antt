@@ -7,7 +7,7 @@ use Rattle.ps_ports.specs.Ports.{is_done}
 use Rattle.ps_ports.specs.declared.port_state.PortState.TheVariants as port
 use Rattle.ps_turns.specs.Claims.{taken_rows}
 use Rattle.ps_turns.specs.Results.{IsPartial}
-use Rattle.ps_turns.specs.Tables.{whole_table}
+use Rattle.ps_meaning.specs.Cases.{rows_table}
 use Rattle.ps_turns.specs.Tasks.{Piece}
 use Rattle.ps_world.specs.World.{Pipe, rows_in_order}
 use Rattle.world_facts.proofs.Wiring.{each_of}
@@ -47,7 +47,7 @@ is_join outs = record { left_enters = (((0, omega arith, refl), refl), refl); ri
 
 module _ (F : Functions) where
   abbrev IsKeptRight : ℕ → List Row → Type 0
-  IsKeptRight k rs = (slice_get right_input.got k ≡ Some (Some rs)) × (size : ℕ) × IsPartial F a_join.node a_join.node.kind 1 (whole_table a_schema rs ∷ []) size
+  IsKeptRight k rs = (slice_get right_input.got k ≡ Some (Some rs)) × (size : ℕ) × IsPartial F a_join.node a_join.node.kind 1 (rows_table a_schema rs ∷ []) size
 
   kept_at : (k : ℕ) (rs : List Row) → slice_get (slots_at a_join 1) k ≡ Some (Some rs) → IsKeptRight k rs
   kept_at zero rs e = let same : row 2 ∷ [] ≡ rs = let q : Some (came (row 2)) ≡ Some (Some rs) = e in cc in subst (IsKeptRight 0) same (refl, 1, (refl, refl))
@@ -58,7 +58,7 @@ module _ (F : Functions) where
   keeps_right =
       record {
         kept = λ q k rs c i e.
-            of_right (λ (y : Pipe). (slice_get y.got k ≡ Some (Some rs)) × (size : ℕ) × IsPartial F a_join.node a_join.node.kind 1 (whole_table a_schema rs ∷ []) size) (kept_at k rs e) q c.0 c.1 i;
+            of_right (λ (y : Pipe). (slice_get y.got k ≡ Some (Some rs)) × (size : ℕ) × IsPartial F a_join.node a_join.node.kind 1 (rows_table a_schema rs ∷ []) size) (kept_at k rs e) q c.0 c.1 i;
         awaited = λ runs k e. absurd (all_kept k e);
       }
 

@@ -8,7 +8,7 @@ use Rattle.ps_meaning.specs.Shape.{negative_slice}
 use Rattle.ps_ports.specs.declared.port_state.PortState.TheVariants as port
 use Rattle.ps_turns.specs.Ends.{HoldsEnd}
 use Rattle.ps_turns.specs.Keys.{IsSplit}
-use Rattle.ps_turns.specs.Tables.{whole_table}
+use Rattle.ps_meaning.specs.Cases.{rows_table}
 use Rattle.ps_turns.specs.Tasks.{Piece}
 use Rattle.ps_world.specs.Facts.{keeps_one}
 use Rattle.ps_world.specs.World.{Pipe}
@@ -100,8 +100,8 @@ module _ (F : Functions) where
       each_of (λ (y : Piece). y.number ≡ 0 → ⊥) (keeping 1 (row 2 ∷ []) ∷ []) a.0 ((λ e. let never : 1 ≡ 0 = e in absurd (omega arith)), tt) a.1 a.4
 
 -- LISTS OF KEYS
-pub one_list_each : IsSplit by_a (whole_table a_schema grouped_rows ∷ []) 2 ((row 1 ∷ []) ∷ (row 2 ∷ []) ∷ [])
+pub one_list_each : IsSplit by_a (rows_table a_schema grouped_rows ∷ []) 2 ((row 1 ∷ []) ∷ (row 2 ∷ []) ∷ [])
 one_list_each = record { number = refl; each_once = IsPermutation-refl (row 1 ∷ row 2 ∷ []) }
 
-pub not_in_two : IsSplit by_a (whole_table a_schema grouped_rows ∷ []) 2 ((row 1 ∷ []) ∷ (row 1 ∷ row 2 ∷ []) ∷ []) → ⊥
+pub not_in_two : IsSplit by_a (rows_table a_schema grouped_rows ∷ []) 2 ((row 1 ∷ []) ∷ (row 1 ∷ row 2 ∷ []) ∷ []) → ⊥
 not_in_two h = smaller 2 3 (omega arith) (sym (length_permutation (row 1 ∷ row 2 ∷ []) (row 1 ∷ row 1 ∷ row 2 ∷ []) h.each_once))

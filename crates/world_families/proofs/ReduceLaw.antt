@@ -4,13 +4,13 @@ use Rattle.std.specs.Prelude.{map, slice_get, unwrap_or}
 use Rattle.std.specs.List.{AllZip}
 use Rattle.ps_frame.specs.Functions.{Functions}
 use Rattle.ps_frame.specs.Tables.{Fields, IsWhole, Row, Table}
-use Rattle.ps_meaning.specs.Cases.{schemas_of}
+use Rattle.ps_meaning.specs.Cases.{schemas_of, rows_table}
 use Rattle.ps_meaning.specs.Schemas.{schema_or_empty}
 use Rattle.ps_meaning.specs.Shape.{PhysicalCase, PhysicalKind, PhysicalNode, reduce}
 use Rattle.ps_meaning.specs.Sound.{HasSchema, input_schemas}
 use Rattle.ps_meaning.specs.Steps.{Named, select}
 use Rattle.ps_turns.specs.Progress.{is_multiplexer}
-use Rattle.ps_turns.specs.Tables.{whole_table, whole_tables}
+use Rattle.ps_turns.specs.Tables.{whole_tables}
 use Rattle.ps_turns.specs.Tasks.{computes}
 use Rattle.ps_world.specs.Laws.{Extends, Justified, sent_at, sent_by, sent_to}
 use Rattle.ps_world.specs.World.{Node, Pipe, World, pipes_in, rows_in_order, schemas_for, shape_of}
@@ -31,7 +31,7 @@ first_same x y xs ys e = cc
 rest_same : {A : Type 0} (x y : A) (xs ys : List A) → x ∷ xs ≡ y ∷ ys → xs ≡ ys
 rest_same x y xs ys e = cc
 
-whole_is : (s : Fields) (q : Pipe) (T : Table) → T.schema ≡ s → IsComplete q → Extends (sent_by q) T → T ≡ whole_table s (rows_in_order q.got)
+whole_is : (s : Fields) (q : Pipe) (T : Table) → T.schema ≡ s → IsComplete q → Extends (sent_by q) T → T ≡ rows_table s (rows_in_order q.got)
 whole_is s q T e complete m = let h = m.ends complete in λ i. record { schema = e i; rows = sym h.0 i; broken = h.1 i }
 
 -- where all pipes are complete, the inputs mean what came and nothing else

@@ -12,13 +12,13 @@ use Rattle.ps_frame.specs.Functions.{Functions}
 use Rattle.ps_frame.specs.Tables.{Fields, IsWhole, Row, Table}
 use Rattle.ps_frame.specs.Zip.{Extent, below, breaks_shape, broadcasts as spreads, extents, zipped}
 use Rattle.ps_frame.specs.declared.value.Value.TheVariants as val
-use Rattle.ps_meaning.specs.Cases.{all_columns, out_schema, schemas_of, table_of}
+use Rattle.ps_meaning.specs.Cases.{all_columns, out_schema, schemas_of, table_of, rows_table}
 use Rattle.ps_meaning.specs.Schemas.{schema_or_empty}
 use Rattle.ps_meaning.specs.Shape.{PhysicalCase, PhysicalKind, PhysicalNode, mild_zip, zip_node}
 use Rattle.ps_meaning.specs.Sound.{HasSchema, input_schemas, schema_at}
 use Rattle.ps_meaning.specs.Steps.{hconcat}
 use Rattle.ps_turns.specs.Progress.{is_multiplexer}
-use Rattle.ps_turns.specs.Tables.{whole_table, whole_tables}
+use Rattle.ps_turns.specs.Tables.{whole_tables}
 use Rattle.ps_turns.specs.Tasks.{computes}
 use Rattle.ps_world.specs.Laws.{Extends, Justified, sent_at, sent_by, sent_to}
 use Rattle.ps_world.specs.World.{Node, Pipe, World, pipes_in, rows_in_order, schemas_for, shape_of}
@@ -78,12 +78,12 @@ module _ (extend : Bool) (a b : ℕ) (some : a < b) where
   abbrev cut_tables : List Fields → List Pipe → List Table
   cut_tables ss qs = whole_tables ss (map (rows_in_cut extend a b) qs)
 
-  each_cut : (P : Table → Type 0) (ss : List Fields) (qs : List Pipe) → ((i : ℕ) (q : Pipe) (s : Fields) → slice_get qs i ≡ Some q → P (whole_table s (rows_in_cut extend a b q))) → AllByRecursion P (cut_tables ss qs)
+  each_cut : (P : Table → Type 0) (ss : List Fields) (qs : List Pipe) → ((i : ℕ) (q : Pipe) (s : Fields) → slice_get qs i ≡ Some q → P (rows_table s (rows_in_cut extend a b q))) → AllByRecursion P (cut_tables ss qs)
   each_cut P [] qs f = tt
   each_cut P (s ∷ ss) [] f = tt
   each_cut P (s ∷ ss) (q ∷ qs) f = (f 0 q s refl, each_cut P ss qs (λ i r u e. f (suc i) r u e))
 
-  cut_there : (ss : List Fields) (qs : List Pipe) (i : ℕ) (q : Pipe) (s : Fields) → slice_get qs i ≡ Some q → slice_get ss i ≡ Some s → Contains (cut_tables ss qs) (whole_table s (rows_in_cut extend a b q))
+  cut_there : (ss : List Fields) (qs : List Pipe) (i : ℕ) (q : Pipe) (s : Fields) → slice_get qs i ≡ Some q → slice_get ss i ≡ Some s → Contains (cut_tables ss qs) (rows_table s (rows_in_cut extend a b q))
   cut_there [] qs i q s e g = absurd (nothing_is s g)
   cut_there (u ∷ ss) [] i q s e g = absurd (nothing_is q e)
   cut_there (u ∷ ss) (x ∷ qs) zero q s e g =
@@ -91,8 +91,8 @@ module _ (extend : Bool) (a b : ℕ) (some : a < b) where
       let same : x ≡ q = cc in
       let both : Some u ≡ Some s = g in
       let like : u ≡ s = cc in
-      subst (λ z. Contains (cut_tables (u ∷ ss) (x ∷ qs)) (whole_table s (rows_in_cut extend a b z))) same (subst (λ z. Contains (cut_tables (u ∷ ss) (x ∷ qs)) (whole_table z (rows_in_cut extend a b x))) like (contains_first (whole_table u (rows_in_cut extend a b x)) (cut_tables ss qs)))
-  cut_there (u ∷ ss) (x ∷ qs) (suc i) q s e g = contains_later (whole_table u (rows_in_cut extend a b x)) (whole_table s (rows_in_cut extend a b q)) (cut_tables ss qs) (cut_there ss qs i q s e g)
+      subst (λ z. Contains (cut_tables (u ∷ ss) (x ∷ qs)) (rows_table s (rows_in_cut extend a b z))) same (subst (λ z. Contains (cut_tables (u ∷ ss) (x ∷ qs)) (rows_table z (rows_in_cut extend a b x))) like (contains_first (rows_table u (rows_in_cut extend a b x)) (cut_tables ss qs)))
+  cut_there (u ∷ ss) (x ∷ qs) (suc i) q s e g = contains_later (rows_table u (rows_in_cut extend a b x)) (rows_table s (rows_in_cut extend a b q)) (cut_tables ss qs) (cut_there ss qs i q s e g)
 
   rows_match : (ss : List Fields) (qs : List Pipe) (Ts : List Table) → schemas_of Ts ≡ ss → AllMeant qs Ts → ((i : ℕ) (q : Pipe) → slice_get qs i ≡ Some q → ServesCut extend a b q) → (j : ℕ) → j < b - a → zip_row extend (cut_tables ss qs) j ≡ zip_row extend Ts (a + j)
   rows_match [] [] [] e m s j less = refl
@@ -120,7 +120,7 @@ module _ (extend : Bool) (a b : ℕ) (some : a < b) where
     Cs = cut_tables ss qs
 
     abbrev top_cut : Table
-    top_cut = whole_table top_table.0.schema (rows_in_cut extend a b top)
+    top_cut = rows_table top_table.0.schema (rows_in_cut extend a b top)
 
     top_extent : Contains (extents (all_columns Cs)) (extent top_cut)
     top_extent = some_extent Cs top_cut (cut_there ss qs k top top_table.0.schema at schema_there) (wide k top_table.0.schema schema_there)
@@ -128,10 +128,10 @@ module _ (extend : Bool) (a b : ℕ) (some : a < b) where
     reached : (b - a ≤ length (rows_in_cut extend a b top)) × (length (rows_in_cut extend a b top) ≤ b - a)
     reached = cut_reached extend a b some top top_table.0 top_table.2 (s k top at) full
 
-    fills : (i : ℕ) (q : Pipe) (u : Fields) → slice_get qs i ≡ Some q → Binds extend (extent (whole_table u (rows_in_cut extend a b q))) → b - a ≤ length (rows_in_cut extend a b q)
+    fills : (i : ℕ) (q : Pipe) (u : Fields) → slice_get qs i ≡ Some q → Binds extend (extent (rows_table u (rows_in_cut extend a b q))) → b - a ≤ length (rows_in_cut extend a b q)
     fills i q u g = let t = meant_there qs Ts i q m g in cut_fills extend a b some q t.0 t.2 (s i q g)
 
-    within : (i : ℕ) (q : Pipe) (u : Fields) → slice_get qs i ≡ Some q → MayPass extend (extent (whole_table u (rows_in_cut extend a b q))) → length (rows_in_cut extend a b q) ≤ b - a
+    within : (i : ℕ) (q : Pipe) (u : Fields) → slice_get qs i ≡ Some q → MayPass extend (extent (rows_table u (rows_in_cut extend a b q))) → length (rows_in_cut extend a b q) ≤ b - a
     within i q u g = let t = meant_there qs Ts i q m g in cut_within extend a b some q t.0 t.2 (s i q g)
 
     cut_height : height extend Cs ≡ b - a

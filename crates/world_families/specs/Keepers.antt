@@ -8,10 +8,11 @@ use Rattle.ps_turns.specs.Ends.{HoldsEnd}
 use Rattle.ps_turns.specs.Heads.{stored_rows}
 use Rattle.ps_turns.specs.Keys.{IsSplit}
 use Rattle.ps_turns.specs.Progress.{Progress, is_giving, is_taking}
+use Rattle.ps_turns.specs.Claims.{all_taken}
 use Rattle.ps_turns.specs.Results.{IsPartial}
-use Rattle.ps_turns.specs.Tables.{whole_table, whole_tables}
+use Rattle.ps_turns.specs.Tables.{whole_tables}
+use Rattle.ps_meaning.specs.Cases.{rows_table}
 use Rattle.ps_turns.specs.Tasks.{Piece, computes, gives_part, keeps}
-use Rattle.ps_turns.specs.Updates.{all_taken}
 use Rattle.ps_world.specs.Facts.{keeps_one}
 use Rattle.ps_world.specs.World.{Node, Pipe, World, running, schemas_for}
 use Rattle.world_families.specs.Sources.{HasGivenAll, KeepsNone, cut_work}
@@ -58,7 +59,7 @@ IsKeptOf w n node i x =
 -- What stands in a slot is the morsel of its number, of which there is a partial; and where nothing stands yet, a piece is out, unless a fault ended the run.
 pub record KeepsMorsels (F : Functions) (w : World) (n : ℕ) (node : Node) (input : ℕ) : Type 0 where
   pub kept : (q : Pipe) (k : ℕ) (rs : List Row) → Enters w n q → q.wire.input ≡ input → slice_get (slots_at node input) k ≡ Some (Some rs)
-      → (slice_get q.got k ≡ Some (Some rs)) × (size : ℕ) × IsPartial F node.node node.node.kind input (whole_table (schema_of_input w node input) rs ∷ []) size
+      → (slice_get q.got k ≡ Some (Some rs)) × (size : ℕ) × IsPartial F node.node node.node.kind input (rows_table (schema_of_input w node input) rs ∷ []) size
   pub awaited : w.ending ≡ running → (k : ℕ) → slice_get (slots_at node input) k ≡ Some None → (x : Piece) × Contains w.outs x × (x.node ≡ n) × (x.input ≡ input) × (x.number ≡ k) × IsTrue (keeps_one x.task)
 
 -- all inputs are complete, and all that came is kept

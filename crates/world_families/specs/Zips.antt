@@ -5,9 +5,8 @@ use Rattle.ps_frame.specs.Tables.{Row}
 use Rattle.ps_ports.specs.Ports.{is_done}
 use Rattle.ps_turns.specs.Heads.{is_single, stored_rows}
 use Rattle.ps_turns.specs.Tasks.{computes}
-use Rattle.ps_world.specs.Facts.{IsWorking}
 use Rattle.ps_world.specs.Laws.{sent_by}
-use Rattle.ps_world.specs.World.{Node, Pipe, World, pipes_in, schemas_for}
+use Rattle.ps_world.specs.World.{Node, Pipe, World, pipes_in, schemas_for, IsWorking}
 use Rattle.world_families.specs.Sources.{KeepsNone}
 use Rattle.world_families.specs.Work.{AllComplete, Enters, Gives, IsComplete, Leaves, rows_read}
 

@@ -3,7 +3,7 @@ ghost use Rattle.std.specs.Prelude.{◌≡◌, None, Some, [], ◌∷◌, true, 
 ghost use Rattle.ps_frame.specs.Functions.{Functions};
 ghost use Rattle.ps_ports.specs.declared.port_state.PortState.TheVariants as port;
 ghost use Rattle.ps_turns.specs.Keys.{IsSplit};
-ghost use Rattle.ps_turns.specs.Tables.{whole_table};
+ghost use Rattle.ps_meaning.specs.Cases.{rows_table};
 ghost use Rattle.world_families.specs.Examples.{a_join, a_reduce, a_schema, a_source, a_union, a_zip, an_end, an_index, both_cuts, by_a, came, end_world, grouped_rows, handing, index_world, indexing, join_world, keeping, long_input, on_a, overlapping, ports_world, probing, reduce_world, row, single_input, source_world, three_rows, union_world, zip_world};
 ghost use Rattle.world_families.specs.Joins.{HoldsJoin};
 ghost use Rattle.world_families.specs.Keepers.{HoldsMade, KeepsMorsels};
@@ -53,8 +53,8 @@ pub fn reduces_keep_morsels()
 
 /// The keys 1 and 2 of three rows are split where each stands in one list, and not where one stands in two.
 pub fn lists_split_keys()
-    ensures one_list_each { IsSplit by_a (whole_table a_schema grouped_rows ∷ []) 2 ((row 1 ∷ []) ∷ (row 2 ∷ []) ∷ []) }
-    ensures not_in_two { ¬ IsSplit by_a (whole_table a_schema grouped_rows ∷ []) 2 ((row 1 ∷ []) ∷ (row 1 ∷ row 2 ∷ []) ∷ []) }
+    ensures one_list_each { IsSplit by_a (rows_table a_schema grouped_rows ∷ []) 2 ((row 1 ∷ []) ∷ (row 2 ∷ []) ∷ []) }
+    ensures not_in_two { ¬ IsSplit by_a (rows_table a_schema grouped_rows ∷ []) 2 ((row 1 ∷ []) ∷ (row 1 ∷ row 2 ∷ []) ∷ []) }
 {}
 
 /// While a join probes, each left morsel goes over all right rows, and not over a part of them.

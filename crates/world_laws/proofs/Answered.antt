@@ -9,7 +9,7 @@ use Rattle.ps_ports.specs.Ports.{is_done}
 use Rattle.ps_ports.specs.Wires.{Wire, is_live}
 use Rattle.ps_meaning.specs.Shape.{PhysicalMeans, PhysicalNode, Shape, in_memory_sink}
 use Rattle.ps_world.specs.World.{Node, Pipe, World, shape_of, wires_of}
-use Rattle.ps_world.specs.Laws.{AnyKind, AllDone, EndsAgree, FactsLaw, FamilyLaw, PortLaw, ServedByChoice, sent_at, sent_by_sink, takes}
+use Rattle.ps_world.specs.Laws.{AnyKind, AllDone, FactsLaw, FamilyLaw, PortLaw, ServedByChoice, sent_at, sent_by_sink, takes}
 use Rattle.ps_world.specs.Phases.{blockers_in}
 use Rattle.ps_world.specs.Promises.{HoldsMeaning}
 use Rattle.ps_world.specs.Updates.{IsSettled}

@@ -4,13 +4,13 @@ use Rattle.std.specs.Prelude.{IsTrue}
 use Rattle.std.specs.List.{AllByRecursion, AllZip}
 use Rattle.ps_frame.specs.Functions.{Functions}
 use Rattle.ps_frame.specs.Tables.{Fields, Table}
-use Rattle.ps_turns.specs.Tables.{whole_table, whole_tables}
-use Rattle.ps_meaning.specs.Cases.{schemas_of}
+use Rattle.ps_turns.specs.Tables.{whole_tables}
+use Rattle.ps_meaning.specs.Cases.{schemas_of, rows_table}
 use Rattle.ps_meaning.specs.Shape.{PhysicalCase, PhysicalNode}
 use Rattle.ps_world.specs.Keeping.{GivesMade, IsTotal, gives_none, gives_some, received_rows}
 use Rattle.ps_world.specs.Laws.{Extends, Justified, Sent, nothing_sent}
 
-whole_is : (s : Fields) (x : Sent) (T : Table) → T.schema ≡ s → IsTrue x.is_complete → Extends x T → T ≡ whole_table s x.rows
+whole_is : (s : Fields) (x : Sent) (T : Table) → T.schema ≡ s → IsTrue x.is_complete → Extends x T → T ≡ rows_table s x.rows
 whole_is s x T e complete m = let h = m.ends complete in λ i. record { schema = e i; rows = sym h.0 i; broken = h.1 i }
 
 first_same : {A : Type 0} (x y : A) (xs ys : List A) → x ∷ xs ≡ y ∷ ys → x ≡ y

@@ -3,8 +3,8 @@ use Rattle.std.proofs.Common.{◌≡◌, ℕ, zero, suc, ◌+◌, ◌<◌, ◌�
 use Rattle.std.proofs.lemmas.Option.{slice_get_within}
 use Rattle.ps_frame.specs.Functions.{Functions}
 use Rattle.ps_turns.specs.Tasks.{Piece}
-use Rattle.ps_world.specs.World.{Pipe, World}
-use Rattle.ps_world.specs.Laws.{IsUnclosed, IsOut, MayStep, IsStarved, IsFull, Progresses, PhaseFacts}
+use Rattle.ps_world.specs.World.{Pipe, World, IsWorking}
+use Rattle.ps_world.specs.Laws.{IsOut, MayStep, IsStarved, IsFull, Progresses, PhaseFacts}
 
 module _ (F : Functions) (w : World) (facts : PhaseFacts w) (law : (n : ℕ) → Progresses F w n) (none_out : w.outs ≡ []) where
   apart : (p : Pipe) → IsStarved w p → IsFull w p → ⊥
@@ -27,19 +27,19 @@ module _ (F : Functions) (w : World) (facts : PhaseFacts w) (law : (n : ℕ) →
   up (suc k) p h s = up_by k (up k) p h s (law p.wire.sender (facts.starved_sender p s))
 
   -- downwards: the reader of a full pipe may move, or is starved, or waits for a pipe further down
-  down_by : (k : ℕ) → ((m : ℕ) → length w.nodes ≤ m + k → IsUnclosed w m → MayStep F w ⊎ IsOut w) → (n : ℕ) → length w.nodes ≤ n + suc k → Waits n → MayStep F w ⊎ IsOut w
+  down_by : (k : ℕ) → ((m : ℕ) → length w.nodes ≤ m + k → IsWorking w m → MayStep F w ⊎ IsOut w) → (n : ℕ) → length w.nodes ≤ n + suc k → Waits n → MayStep F w ⊎ IsOut w
   unfolding Waits
   down_by k rec n h (inl m) = inl m
   down_by k rec n h (inr (inl o)) = inr o
   down_by k rec n h (inr (inr (inl q))) = up (suc q.0.wire.sender) q.0 (omega arith) q.2
   down_by k rec n h (inr (inr (inr q))) = let lower = facts.forward q.0 q.2.0 in let same = q.1 in rec q.0.wire.receiver (omega arith) (facts.full_reader q.0 q.2 none_out).0
 
-  down : (k n : ℕ) → length w.nodes ≤ n + k → IsUnclosed w n → MayStep F w ⊎ IsOut w
+  down : (k n : ℕ) → length w.nodes ≤ n + k → IsWorking w n → MayStep F w ⊎ IsOut w
   unfolding Waits
   down zero n h u = let within = slice_get_within w.nodes n u.0 u.1 in absurd (omega arith)
   down (suc k) n h u = down_by k (down k) n h (law n u)
 
-pub goes_on : (F : Functions) (w : World) → PhaseFacts w → ((n : ℕ) → Progresses F w n) → (n : ℕ) → IsUnclosed w n → MayStep F w ⊎ IsOut w
+pub goes_on : (F : Functions) (w : World) → PhaseFacts w → ((n : ℕ) → Progresses F w n) → (n : ℕ) → IsWorking w n → MayStep F w ⊎ IsOut w
 goes_on F w facts law n u = by w.outs refl
   where
     by : (outs : List Piece) → w.outs ≡ outs → MayStep F w ⊎ IsOut w

@@ -1,6 +1,6 @@
 -- The third part of the law of passing nodes: with one input and one output, an update that passes keeps the law of ports.
 use Rattle.std.proofs.Common.{◌≡◌, ℕ, zero, suc, ◌⊎◌, Bool, true, false, cond, List, [], ◌∷◌, Some, None, refl, sym, ap, subst, ◌∙◌, inl, inr, arith}
-use Rattle.std.specs.Prelude.{Contains, IsTrue, get_or, map, nat_eq, not, slice_get, ◌&&◌, ◌||◌, if◌then◌else◌}
+use Rattle.std.specs.Prelude.{Contains, IsTrue, get_or, map, nat_eq, not, slice_get, ◌||◌, if◌then◌else◌}
 use Rattle.std.specs.List.{filter as kept}
 use Rattle.std.proofs.lemmas.Bool.Decides.{nat_tests}
 use Rattle.ps_frame.specs.Sorting.{in_order, insert_in_order}

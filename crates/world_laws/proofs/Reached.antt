@@ -1,6 +1,6 @@
 -- From the laws of all families: every reached world keeps the promises.
 use Rattle.std.proofs.Common.{◌≡◌, ℕ, cond, List, [], ◌∷◌, refl, sym, ap, subst, ◌∙◌}
-use Rattle.std.specs.Prelude.{Contains, IsTrue}
+use Rattle.std.specs.Prelude.{Contains}
 use Rattle.ps_frame.specs.Causes.{Cause, is_empty}
 use Rattle.ps_frame.specs.Functions.{Functions}
 use Rattle.ps_options.specs.declared.options.Options.{Options}

@@ -3,8 +3,8 @@ ghost use Rattle.std.specs.Prelude.{◌<◌, ◌⊎◌, ℕ, Contains, IsTrue, l
 ghost use Rattle.ps_frame.specs.Functions.{Functions};
 ghost use Rattle.ps_ports.specs.Wires.{Wire, is_live};
 ghost use Rattle.ps_meaning.specs.Shape.{Shape};
-ghost use Rattle.ps_world.specs.World.{World, closed, wires_of};
-ghost use Rattle.ps_world.specs.Laws.{AllJustified, IsForward, IsOut, IsRunnable, IsUnclosed, MayStep, PhaseFacts, PortLaw, Progresses, Sent, ServedByChoice};
+ghost use Rattle.ps_world.specs.World.{World, closed, wires_of, IsWorking};
+ghost use Rattle.ps_world.specs.Laws.{AllJustified, IsForward, IsOut, IsRunnable, MayStep, PhaseFacts, PortLaw, Progresses, Sent, ServedByChoice};
 
 /// One choice of tables serves all ports.
 pub fn one_choice()
@@ -13,7 +13,7 @@ pub fn one_choice()
 
 /// While a node of the open phase isn't closed, a move is enabled or a piece is out.
 pub fn goes_on()
-    ensures { (F : Functions) (w : World) → PhaseFacts w → ((n : ℕ) → Progresses F w n) → (n : ℕ) → IsUnclosed w n → MayStep F w ⊎ IsOut w }
+    ensures { (F : Functions) (w : World) → PhaseFacts w → ((n : ℕ) → Progresses F w n) → (n : ℕ) → IsWorking w n → MayStep F w ⊎ IsOut w }
 {}
 
 /// Between phases, where some pipe isn't done, a blocker can run.

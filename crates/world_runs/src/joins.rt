@@ -7,7 +7,7 @@ ghost use Rattle.ps_ports.specs.declared.port_state.PortState.TheVariants as por
 ghost use Rattle.ps_turns.specs.Claims.{Claim, claim_of};
 ghost use Rattle.ps_turns.specs.Progress.{giving, is_intensive, spent, taking};
 ghost use Rattle.ps_turns.specs.Results.{IsResultOf};
-ghost use Rattle.ps_turns.specs.Tables.{whole_table};
+ghost use Rattle.ps_meaning.specs.Cases.{rows_table};
 ghost use Rattle.ps_turns.specs.Tasks.{Task, gives_last, good, keeps, probes};
 ghost use Rattle.ps_turns.specs.Updates.{answer_of, stage_after};
 ghost use Rattle.world_runs.specs.Examples.{number};
@@ -31,7 +31,7 @@ pub fn joins_probe()
     ensures under_its_number { option_map {U = ℕ × ℕ} (λ (c : Claim). (c.number, c.gives)) second_left ≡ Some (1, 1) }
     ensures over_all_right { option_map {U = Task × List (List Row)} (λ (c : Claim). (c.task, c.tables)) second_left ≡ Some (probes a_left_join (on_k how.Left), (key 2 ∷ key 3 ∷ []) ∷ right_rows ∷ []) }
     ensures keeps_no_left { option_map (λ (c : Claim). c.progress.taken) second_left ≡ Some probing.taken }
-    ensures probed { (F : Functions) → IsResultOf F (probes a_left_join (on_k how.Left)) 0 (whole_table left_fields (key 3 ∷ key 2 ∷ []) ∷ whole_table right_fields right_rows ∷ []) [] (good ((number 3 ∷ val.Null ∷ []) ∷ y 2 ∷ z 2 ∷ [])) }
+    ensures probed { (F : Functions) → IsResultOf F (probes a_left_join (on_k how.Left)) 0 (rows_table left_fields (key 3 ∷ key 2 ∷ []) ∷ rows_table right_fields right_rows ∷ []) [] (good ((number 3 ∷ val.Null ∷ []) ∷ y 2 ∷ z 2 ∷ [])) }
 {}
 
 /// Done on the left, a left join is spent, and has no last piece.
@@ -54,6 +54,6 @@ pub fn full_joins_end()
 
 /// Pairs and left rows without a match come first; the last piece gives the right rows without one.
 pub fn full_joins_give()
-    ensures full_front { (F : Functions) → IsResultOf F (probes a_full_join (on_k how.Full)) 0 (whole_table left_fields (key 1 ∷ key 3 ∷ []) ∷ whole_table right_fields (x 4 ∷ y 1 ∷ []) ∷ []) [] (good ((number 1 ∷ number 1 ∷ text 121 ∷ []) ∷ (number 3 ∷ val.Null ∷ val.Null ∷ []) ∷ [])) }
-    ensures ends_with_right { (F : Functions) → IsResultOf F (gives_last a_full_join (on_k how.Full)) 0 (whole_table left_fields (key 1 ∷ key 3 ∷ []) ∷ whole_table right_fields (x 4 ∷ y 1 ∷ []) ∷ []) [] (good ((val.Null ∷ number 4 ∷ text 120 ∷ []) ∷ [])) }
+    ensures full_front { (F : Functions) → IsResultOf F (probes a_full_join (on_k how.Full)) 0 (rows_table left_fields (key 1 ∷ key 3 ∷ []) ∷ rows_table right_fields (x 4 ∷ y 1 ∷ []) ∷ []) [] (good ((number 1 ∷ number 1 ∷ text 121 ∷ []) ∷ (number 3 ∷ val.Null ∷ val.Null ∷ []) ∷ [])) }
+    ensures ends_with_right { (F : Functions) → IsResultOf F (gives_last a_full_join (on_k how.Full)) 0 (rows_table left_fields (key 1 ∷ key 3 ∷ []) ∷ rows_table right_fields (x 4 ∷ y 1 ∷ []) ∷ []) [] (good ((val.Null ∷ number 4 ∷ text 120 ∷ []) ∷ [])) }
 {}

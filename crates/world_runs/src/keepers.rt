@@ -6,7 +6,7 @@ ghost use Rattle.ps_ports.specs.declared.port_state.PortState.TheVariants as por
 ghost use Rattle.ps_turns.specs.Claims.{Claim, claim_of, filled_slot};
 ghost use Rattle.ps_turns.specs.Keys.{distinct_keys, part_of};
 ghost use Rattle.ps_turns.specs.Progress.{giving, spent, taking};
-ghost use Rattle.ps_turns.specs.Tables.{whole_table};
+ghost use Rattle.ps_meaning.specs.Cases.{rows_table};
 ghost use Rattle.ps_turns.specs.Tasks.{Task, computes, gives_part, keeps};
 ghost use Rattle.ps_turns.specs.Updates.{answer_of, is_waiting, next_stage, stage_after};
 ghost use Rattle.ps_world.specs.Opening.{no_progress};
@@ -28,9 +28,9 @@ pub fn reduces_give()
 
 /// The keys of a group-by, the rows of one list of them and of an empty one; its second claim is of the second list.
 pub fn lists_of_keys()
-    ensures its_keys { distinct_keys a_group_by (whole_table ab morsel ∷ []) ≡ (val.Int64 (pos 1) ∷ []) ∷ (val.Int64 (pos 2) ∷ []) ∷ [] }
-    ensures part_of_one { part_of a_group_by ((val.Int64 (pos 1) ∷ []) ∷ []) (whole_table ab morsel ∷ []) ≡ whole_table ab (row 1 10 ∷ row 1 30 ∷ []) ∷ [] }
-    ensures part_of_none { part_of a_group_by [] (whole_table ab morsel ∷ []) ≡ whole_table ab [] ∷ [] }
+    ensures its_keys { distinct_keys a_group_by (rows_table ab morsel ∷ []) ≡ (val.Int64 (pos 1) ∷ []) ∷ (val.Int64 (pos 2) ∷ []) ∷ [] }
+    ensures part_of_one { part_of a_group_by ((val.Int64 (pos 1) ∷ []) ∷ []) (rows_table ab morsel ∷ []) ≡ rows_table ab (row 1 10 ∷ row 1 30 ∷ []) ∷ [] }
+    ensures part_of_none { part_of a_group_by [] (rows_table ab morsel ∷ []) ≡ rows_table ab [] ∷ [] }
     ensures second_list { option_map {U = ℕ × Task} (λ (c : Claim). (c.number, c.task)) (claim_of two_workers a_group_by (ab ∷ []) (record gives { sent = 1; lists = ((val.Int64 (pos 1) ∷ []) ∷ []) ∷ ((val.Int64 (pos 2) ∷ []) ∷ []) ∷ [] }) [] [] 0 None) ≡ Some (1, gives_part a_group_by ((val.Int64 (pos 2) ∷ []) ∷ [])) }
 {}
 
