@@ -11,7 +11,7 @@ use Rattle.ps_meaning.specs.Steps.{JoinStep}
 use Rattle.ps_options.specs.declared.options.Options.{Options}
 use Rattle.ps_turns.specs.Claims.{Claim, Next, claim_by, of_join, of_kept, of_made, of_parts, of_reduce, owes_last, passes}
 use Rattle.ps_turns.specs.Cuts.{is_exhausted}
-use Rattle.ps_turns.specs.Heads.{Head, is_ready}
+use Rattle.ps_turns.specs.Heads.{Head, is_ready_head}
 use Rattle.ps_turns.specs.Progress.{Progress, Stage, giving, spent, taking}
 use Rattle.ps_turns.specs.Tasks.{Piece, Task, computes, gives_last, gives_part, hands_on, keeps, probes}
 use Rattle.ps_world.specs.Claims.{claim_at, inputs_in_phase, next_morsel, piece_of}
@@ -103,7 +103,7 @@ claims_own o p ss a hs ds i next c (independent_select es) e = first_if (λ (x :
 claims_own o p ss a hs ds i next c (in_memory_map step) e = made o p ss a hs ds i next c a.stage a.made e
 claims_own o p ss a hs ds i next c (in_memory_join j) e = made o p ss a hs ds i next c a.stage a.made e
 claims_own o p ss a hs ds i next c (negative_slice back n) e = made o p ss a hs ds i next c a.stage a.made e
-claims_own o p ss a hs ds i next c (zip_node extend) e = first_if (λ (x : Claim). TaskOf p.origin x.task) c (nat_eq i 0) (list_all (is_ready extend) hs && list_any (λ (h : Head). not (is_empty h.rest)) hs) _ e refl
+claims_own o p ss a hs ds i next c (zip_node extend) e = first_if (λ (x : Claim). TaskOf p.origin x.task) c (nat_eq i 0) (list_all (is_ready_head extend) hs && list_any (λ (h : Head). not (is_empty h.rest)) hs) _ e refl
 claims_own o p ss a hs ds i next c (reduce es) e = reduced o p ss a hs ds i next c a.stage e
 claims_own o p ss a hs ds i next c (group_by_node keys aggregates) e = parted o p ss a hs ds i next c a.stage e
 claims_own o p ss a hs ds i next c (equi_join j) e = joined o p ss a (get_or ds 0 false) i next c j a.stage e

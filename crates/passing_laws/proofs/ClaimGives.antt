@@ -13,7 +13,7 @@ use Rattle.ps_turns.specs.Progress.{Progress}
 use Rattle.ps_turns.specs.Results.{rows_fault}
 use Rattle.ps_turns.specs.Tasks.{bad, good}
 use Rattle.ps_options.specs.declared.options.Options.{Options}
-use Rattle.ps_world.specs.Booking.{BeforeAfter, CaseAfter, Computes, GivesAfter, GoesOn, HasBooked, IsPassing, IsShort, MayAnswer, StandsAt, slice_after}
+use Rattle.ps_world.specs.Booking.{BeforeAfter, CaseAfter, Computes, GivesAfter, GoesOn, HasBooked, IsPassing, NeverGrows, MayAnswer, StandsAt, slice_after}
 use Rattle.ps_world.specs.Laws.{BreaksWhatever, IsLargeWhatever, sent_by}
 use Rattle.ps_world.specs.World.{Pipe}
 use Rattle.passing_laws.proofs.PieceFaults.{piece-faults, piece-overflows}
@@ -62,7 +62,7 @@ module _ (F : Functions) (o : Options) (schema : Fields) (origin : ℕ) (inputs 
   abbrev Breaks : PhysicalNode → (before : ℕ) → List Row → Cause → Type 0
   Breaks p k rs c = (U : Table) × BeforeAfter F p p.kind k (rows_table s rs) U × (Contains U.broken c ⊎ (max_rows < length U.rows) × (c ≡ rows_fault p))
 
-  bad-breaks : (kind : PhysicalKind) → IsShort kind → (progress : Progress) (before : ℕ) → HasBooked kind progress before → (i k : ℕ) (rs : List Row) (c : Cause) → MayAnswer F i (claim kind progress k rs) (bad c) → Computes kind × Breaks (node kind) before rs c
+  bad-breaks : (kind : PhysicalKind) → NeverGrows kind → (progress : Progress) (before : ℕ) → HasBooked kind progress before → (i k : ℕ) (rs : List Row) (c : Cause) → MayAnswer F i (claim kind progress k rs) (bad c) → Computes kind × Breaks (node kind) before rs c
   bad-breaks (filter_node e) h progress before booked i k rs c r = (tt, r)
   bad-breaks (select_node es true) h progress before booked i k rs c r = (tt, r)
   bad-breaks (select_node es false) h progress before booked i k rs c r = (tt, r)
@@ -87,7 +87,7 @@ pub claim-gives : (F : Functions) (o : Options) (p : PhysicalNode) (s : Fields) 
     → MayAnswer F i (passes o p (s ∷ []) p.kind progress k rs) (good b) → GivesAfter F p s before rs b
 claim-gives F o p s h law progress before booked i k rs b r = good-gives F o p.schema p.origin p.inputs s p.kind h law progress before booked i k rs b r
 
-pub claim-breaks : (F : Functions) (o : Options) (shape : Shape) (n : ℕ) (p : PhysicalNode) (s : Fields) → IsSound F shape → slice_get shape n ≡ Some p → IsShort p.kind → input_schemas shape p ≡ s ∷ []
+pub claim-breaks : (F : Functions) (o : Options) (shape : Shape) (n : ℕ) (p : PhysicalNode) (s : Fields) → IsSound F shape → slice_get shape n ≡ Some p → NeverGrows p.kind → input_schemas shape p ≡ s ∷ []
     → (from : Pipe) (progress : Progress) (i k : ℕ) (front a : List Row) (c : Cause) → StandsAt from.got k front a → HasBooked p.kind progress (length front) → MayAnswer F i (passes o p (s ∷ []) p.kind progress k a) (bad c)
     → BreaksWhatever F p (s ∷ []) (sent_by from ∷ []) c ⊎ IsLargeWhatever F p (s ∷ []) (sent_by from ∷ [])
 claim-breaks F o shape n p s sound there short reads from progress i k front a c stands booked r = by (bad-breaks F o p.schema p.origin p.inputs s p.kind short progress (length front) booked i k a c r)

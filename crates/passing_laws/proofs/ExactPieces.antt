@@ -10,7 +10,7 @@ use Rattle.ps_meaning.specs.Distinct.{picked, places_in}
 use Rattle.ps_meaning.specs.Schemas.{output_schema, schema_or_empty}
 use Rattle.ps_meaning.specs.Shape.{PhysicalCase, PhysicalKind, PhysicalNode, simple_projection}
 use Rattle.ps_meaning.specs.Steps.{Name, project}
-use Rattle.ps_world.specs.Booking.{CaseAfter, GoesOn, IsFull}
+use Rattle.ps_world.specs.Booking.{CaseAfter, GoesOn, GivesNoMore}
 use Rattle.ps_world.specs.Passing.{in_front, GoesPiecewise}
 use Rattle.passing_laws.proofs.ZipPieces.{table_with}
 
@@ -66,7 +66,7 @@ module _ (F : Functions) (p : PhysicalNode) (s : Fields) (g : (before : ℕ) →
         over_front = λ a b R V e v c d. exact-front case is 0 a b R V e c d;
       }
 
-  exact-full : ((k : ℕ) (rows : List Row) (causes : List Cause) → IsFull p.kind k → ((g k rows causes).broken ≡ []) × ((g k rows causes).rows ≡ [])) → IsExactly (CaseAfter F p p.kind) → (k : ℕ) (T : Table) → T.schema ≡ s → IsFull p.kind k
+  exact-full : ((k : ℕ) (rows : List Row) (causes : List Cause) → GivesNoMore p.kind k → ((g k rows causes).broken ≡ []) × ((g k rows causes).rows ≡ [])) → IsExactly (CaseAfter F p p.kind) → (k : ℕ) (T : Table) → T.schema ≡ s → GivesNoMore p.kind k
       → (U : Table) × CaseAfter F p p.kind k T U × (U.broken ≡ []) × (U.schema ≡ p.schema) × (U.rows ≡ [])
   exact-full full is k T e h =
       let n = full k T.rows T.broken h in
@@ -74,7 +74,7 @@ module _ (F : Functions) (p : PhysicalNode) (s : Fields) (g : (before : ℕ) →
       (g k T.rows T.broken, subst (λ t. CaseAfter F p p.kind k t (g k T.rows T.broken)) same (is.back k T.rows T.broken), n.0, by_front.schema k T.rows T.broken, n.1)
 
   pub exact-on : ((T U : Table) → T.schema ≡ s → CaseAfter F p p.kind 0 T U → PhysicalCase F p (T ∷ []) U) → IsExactly (CaseAfter F p p.kind)
-      → ((k : ℕ) (rows : List Row) (causes : List Cause) → IsFull p.kind k → ((g k rows causes).broken ≡ []) × ((g k rows causes).rows ≡ [])) → GoesOn F p s
+      → ((k : ℕ) (rows : List Row) (causes : List Cause) → GivesNoMore p.kind k → ((g k rows causes).broken ≡ []) × ((g k rows causes).rows ≡ [])) → GoesOn F p s
   exact-on starts is full =
       record {
         schemas = exact-schemas (CaseAfter F p p.kind) is;

@@ -12,7 +12,7 @@ use Rattle.ps_meaning.specs.Schemas.{output_schema}
 use Rattle.ps_meaning.specs.Shape.{PhysicalKind, PhysicalNode, Shape, equi_join, filter_node, group_by_node, in_memory_join, in_memory_map, in_memory_sink, in_memory_source, independent_select, multiplexer, negative_slice, ordered_union, reduce, select_node, simple_projection, stream_map, streaming_slice, with_row_index, zip_node}
 use Rattle.ps_meaning.specs.Sound.{IsFunctionStep, IsSound, IsFitNode, have_kinds_over, input_schemas, schema_at}
 use Rattle.ps_meaning.specs.Steps.{Step, cache, distinct, filter, group_by, hconcat, hstack, join, left_out, project, row_index, scan, select, sink, slice, sort, union, user}
-use Rattle.ps_world.specs.Booking.{Computes, FaultsByPart, GivesFewer, GoesOn, IsPassing, IsShort}
+use Rattle.ps_world.specs.Booking.{Computes, FaultsByPart, GivesFewer, GoesOn, IsPassing, NeverGrows}
 use Rattle.passing_laws.proofs.ExactPieces.{project-goes}
 use Rattle.passing_laws.proofs.FewerRows.{extend-fewer, filter-fewer, index-fewer, project-fewer, select-fewer}
 use Rattle.passing_laws.proofs.FilterPieces.{filter-goes}
@@ -157,7 +157,7 @@ module _ (F : Functions) (shape : Shape) (sound : IsSound F shape) (n : ℕ) (sc
   part-faults (equi_join o) h has = absurd h
   part-faults (in_memory_join o) h has = absurd h
 
-  short-pieces : (kind : PhysicalKind) → IsShort kind → Has kind → GivesFewer F (node kind) s
+  short-pieces : (kind : PhysicalKind) → NeverGrows kind → Has kind → GivesFewer F (node kind) s
   short-pieces (filter_node e) h has =
       let k = over (λ ss. IsTrue (have_kinds_over ss (filter e))) (filter_node e) has (of (filter_node e) has).kinds in
       filter-fewer F (node (filter_node e)) s e refl (columns (filter_node e) has) (of (filter_node e) has).parameters (both (is_some (kind_over s e)) true k).0
@@ -189,5 +189,5 @@ sound-goes-on F shape n p s sound there h reads = passes-on F shape sound n p.sc
 pub sound-part-faults : (F : Functions) (shape : Shape) (n : ℕ) (p : PhysicalNode) (s : Fields) → IsSound F shape → slice_get shape n ≡ Some p → Computes p.kind → input_schemas shape p ≡ s ∷ [] → FaultsByPart F p s
 sound-part-faults F shape n p s sound there h reads = part-faults F shape sound n p.schema p.origin p.inputs s p.kind h (record { at = there; reads = reads })
 
-pub sound-fewer : (F : Functions) (shape : Shape) (n : ℕ) (p : PhysicalNode) (s : Fields) → IsSound F shape → slice_get shape n ≡ Some p → IsShort p.kind → input_schemas shape p ≡ s ∷ [] → GivesFewer F p s
+pub sound-fewer : (F : Functions) (shape : Shape) (n : ℕ) (p : PhysicalNode) (s : Fields) → IsSound F shape → slice_get shape n ≡ Some p → NeverGrows p.kind → input_schemas shape p ≡ s ∷ [] → GivesFewer F p s
 sound-fewer F shape n p s sound there h reads = short-pieces F shape sound n p.schema p.origin p.inputs s p.kind h (record { at = there; reads = reads })

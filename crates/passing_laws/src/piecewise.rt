@@ -18,7 +18,7 @@ ghost use Rattle.ps_meaning.specs.Schemas.{output_schema};
 ghost use Rattle.ps_meaning.specs.Shape.{PhysicalNode, Shape, filter_node, select_node, simple_projection, stream_map, streaming_slice, with_row_index};
 ghost use Rattle.ps_meaning.specs.Sound.{AreElementwise, IsSound, have_all_kinds, input_schemas};
 ghost use Rattle.ps_meaning.specs.Steps.{Name, Named, exprs_of, hstack, project, select, user};
-ghost use Rattle.ps_world.specs.Booking.{BeforeAfter, Computes, FaultsByPart, GivesAfter, GoesOn, HasBooked, HoldsAfter, IsPassing, IsShort, MayAnswer, StandsAt, counter, second_row};
+ghost use Rattle.ps_world.specs.Booking.{BeforeAfter, Computes, FaultsByPart, GivesAfter, GoesOn, HasBooked, HoldsAfter, IsPassing, NeverGrows, MayAnswer, StandsAt, counter, second_row};
 ghost use Rattle.ps_world.specs.Laws.{BreaksWhatever, IsLargeWhatever, Justified, sent_by};
 ghost use Rattle.ps_world.specs.Passing.{GoesPiecewise, one_port};
 ghost use Rattle.ps_world.specs.World.{Pipe};
@@ -82,7 +82,7 @@ pub fn pieces_are_not_alone()
 /// A cause that a piece of a passing node may answer breaks the node, whatever its input turns out to mean. One with too many rows, but for a map, has an input with too many.
 pub fn pieces_fault_as_their_node()
     ensures causes { (F : Functions) (shape : Shape) (n : ℕ) (p : PhysicalNode) (s : Fields) → IsSound F shape → slice_get shape n ≡ Some p → Computes p.kind → input_schemas shape p ≡ s ∷ [] → (from : Pipe) (k : ℕ) (front a : List Row) → StandsAt from.got k front a → (U : Table) (c : Cause) → BeforeAfter F p p.kind (length front) (rows_table s a) U → Contains U.broken c → BreaksWhatever F p (s ∷ []) (sent_by from ∷ []) c }
-    ensures rows { (F : Functions) (shape : Shape) (n : ℕ) (p : PhysicalNode) (s : Fields) → IsSound F shape → slice_get shape n ≡ Some p → IsShort p.kind → input_schemas shape p ≡ s ∷ [] → (from : Pipe) (k : ℕ) (front a : List Row) → StandsAt from.got k front a → (U : Table) → BeforeAfter F p p.kind (length front) (rows_table s a) U → max_rows < length U.rows → IsLargeWhatever F p (s ∷ []) (sent_by from ∷ []) }
+    ensures rows { (F : Functions) (shape : Shape) (n : ℕ) (p : PhysicalNode) (s : Fields) → IsSound F shape → slice_get shape n ≡ Some p → NeverGrows p.kind → input_schemas shape p ≡ s ∷ [] → (from : Pipe) (k : ℕ) (front a : List Row) → StandsAt from.got k front a → (U : Table) → BeforeAfter F p p.kind (length front) (rows_table s a) U → max_rows < length U.rows → IsLargeWhatever F p (s ∷ []) (sent_by from ∷ []) }
 {}
 
 /// A map by a function that streams gives no rows where the first of two rows faults, and all rows of the second's answer where that row comes alone.
@@ -94,5 +94,5 @@ pub fn maps_may_pass_the_limit()
 /// What may be handed in for a claim of a passing node is what the node gives behind the rows before; a cause breaks the node or, where there are too many rows, its input has too many.
 pub fn answers_to_claims()
     ensures good { (F : Functions) (o : Options) (p : PhysicalNode) (s : Fields) → IsPassing p.kind → GoesOn F p s → (progress : Progress) (before : ℕ) → HasBooked p.kind progress before → (i k : ℕ) (rs b : List Row) → MayAnswer F i (passes o p (s ∷ []) p.kind progress k rs) (good b) → GivesAfter F p s before rs b }
-    ensures bad { (F : Functions) (o : Options) (shape : Shape) (n : ℕ) (p : PhysicalNode) (s : Fields) → IsSound F shape → slice_get shape n ≡ Some p → IsShort p.kind → input_schemas shape p ≡ s ∷ [] → (from : Pipe) (progress : Progress) (i k : ℕ) (front a : List Row) (c : Cause) → StandsAt from.got k front a → HasBooked p.kind progress (length front) → MayAnswer F i (passes o p (s ∷ []) p.kind progress k a) (bad c) → BreaksWhatever F p (s ∷ []) (sent_by from ∷ []) c ⊎ IsLargeWhatever F p (s ∷ []) (sent_by from ∷ []) }
+    ensures bad { (F : Functions) (o : Options) (shape : Shape) (n : ℕ) (p : PhysicalNode) (s : Fields) → IsSound F shape → slice_get shape n ≡ Some p → NeverGrows p.kind → input_schemas shape p ≡ s ∷ [] → (from : Pipe) (progress : Progress) (i k : ℕ) (front a : List Row) (c : Cause) → StandsAt from.got k front a → HasBooked p.kind progress (length front) → MayAnswer F i (passes o p (s ∷ []) p.kind progress k a) (bad c) → BreaksWhatever F p (s ∷ []) (sent_by from ∷ []) c ⊎ IsLargeWhatever F p (s ∷ []) (sent_by from ∷ []) }
 {}

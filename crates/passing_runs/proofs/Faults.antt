@@ -13,7 +13,7 @@ use Rattle.ps_turns.specs.Results.{IsResult, rows_fault}
 use Rattle.ps_turns.specs.Tables.{whole_tables}
 use Rattle.ps_meaning.specs.Cases.{rows_table}
 use Rattle.ps_turns.specs.Tasks.{Piece, bad}
-use Rattle.ps_world.specs.Booking.{BeforeAfter, Computes, FaultsByPart, GivesFewer, HasBooked, IsPassing, IsShort, MayAnswer}
+use Rattle.ps_world.specs.Booking.{BeforeAfter, Computes, FaultsByPart, GivesFewer, HasBooked, IsPassing, NeverGrows, MayAnswer}
 use Rattle.ps_world.specs.Laws.{Faults, Overflows, sent_by}
 use Rattle.ps_world.specs.World.{Pipe}
 use Rattle.fault_origins.proofs.Results.{all_whole, of_result}
@@ -21,21 +21,21 @@ use Rattle.fault_origins.proofs.Tasks.{TaskOf}
 use Rattle.passing_laws.proofs.PieceFaults.{piece-faults, piece-overflows}
 use Rattle.passing_runs.proofs.Kept.{PieceStands}
 
-pub short_passes : (kind : PhysicalKind) → IsShort kind → IsPassing kind
+pub short_passes : (kind : PhysicalKind) → NeverGrows kind → IsPassing kind
 short_passes (filter_node e) h = tt
 short_passes (select_node es extends) h = tt
 short_passes (simple_projection ns) h = tt
 short_passes (with_row_index name offset) h = tt
 short_passes kind h = absurd h
 
-pub short_computes : (kind : PhysicalKind) → IsShort kind → Computes kind
+pub short_computes : (kind : PhysicalKind) → NeverGrows kind → Computes kind
 short_computes (filter_node e) h = tt
 short_computes (select_node es extends) h = tt
 short_computes (simple_projection ns) h = tt
 short_computes (with_row_index name offset) h = tt
 short_computes kind h = absurd h
 
-task_of : (o : Options) (p : PhysicalNode) (s : Fields) (kind : PhysicalKind) (a : Progress) (k : ℕ) (rs : List Row) → IsShort kind → TaskOf p.origin (passes o p (s ∷ []) kind a k rs).task
+task_of : (o : Options) (p : PhysicalNode) (s : Fields) (kind : PhysicalKind) (a : Progress) (k : ℕ) (rs : List Row) → NeverGrows kind → TaskOf p.origin (passes o p (s ∷ []) kind a k rs).task
 task_of o p s (filter_node e) a k rs h = refl
 task_of o p s (select_node es extends) a k rs h = refl
 task_of o p s (simple_projection ns) a k rs h = refl
@@ -51,7 +51,7 @@ module _ (F : Functions) where
     abbrev node : PhysicalKind → PhysicalNode
     node kind = record { kind = kind; schema = schema; origin = origin; inputs = inputs }
 
-    breaks : (kind : PhysicalKind) → IsShort kind → (a : Progress) (before : ℕ) → HasBooked kind a before → (i k : ℕ) (rs : List Row) (c : Cause) → MayAnswer F i (passes o (node kind) (s ∷ []) kind a k rs) (bad c) → Breaks (node kind) s before rs c
+    breaks : (kind : PhysicalKind) → NeverGrows kind → (a : Progress) (before : ℕ) → HasBooked kind a before → (i k : ℕ) (rs : List Row) (c : Cause) → MayAnswer F i (passes o (node kind) (s ∷ []) kind a k rs) (bad c) → Breaks (node kind) s before rs c
     breaks (filter_node e) h a before booked i k rs c r = r
     breaks (select_node es true) h a before booked i k rs c r = r
     breaks (select_node es false) h a before booked i k rs c r = r
@@ -59,7 +59,7 @@ module _ (F : Functions) where
     breaks (with_row_index name offset) h a before booked i k rs c r = subst (λ m. Breaks (node (with_row_index name offset)) s m rs c) booked r
     breaks kind h a before booked i k rs c r = absurd h
 
-  pub of_piece : (p : PhysicalNode) (s : Fields) (n : ℕ) → IsShort p.kind → FaultsByPart F p s → GivesFewer F p s → (from : Pipe) (q : Piece) (c : Cause) → PieceStands p s n from q → IsResult F q (bad c) → Faults F p (s ∷ []) (sent_by from ∷ []) c ⊎ Overflows F p (s ∷ []) (sent_by from ∷ []) c
+  pub of_piece : (p : PhysicalNode) (s : Fields) (n : ℕ) → NeverGrows p.kind → FaultsByPart F p s → GivesFewer F p s → (from : Pipe) (q : Piece) (c : Cause) → PieceStands p s n from q → IsResult F q (bad c) → Faults F p (s ∷ []) (sent_by from ∷ []) c ⊎ Overflows F p (s ∷ []) (sent_by from ∷ []) c
   of_piece p s n short by_part fewer from q c h result = by found.2
     where
       result_of : MayAnswer F h.input (passes h.options p (s ∷ []) p.kind h.progress q.gives h.rows) (bad c)

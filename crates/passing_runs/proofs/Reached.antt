@@ -13,7 +13,7 @@ use Rattle.ps_turns.specs.Progress.{Progress}
 use Rattle.ps_turns.specs.Results.{IsResult}
 use Rattle.ps_turns.specs.Tasks.{Answer, Piece, bad, good, partial}
 use Rattle.ps_world.specs.Answers.{answered}
-use Rattle.ps_world.specs.Booking.{FaultsByPart, GivesAfter, GivesFewer, GoesOn, HasBooked, IsPassing, IsShort, PassesAfter}
+use Rattle.ps_world.specs.Booking.{FaultsByPart, GivesAfter, GivesFewer, GoesOn, HasBooked, IsPassing, NeverGrows, PassesAfter}
 use Rattle.ps_world.specs.Laws.{Faults, Overflows, sent_by}
 use Rattle.ps_world.specs.Claims.{after_claim, before_drops, claim_at}
 use Rattle.ps_world.specs.Opening.{Reaches, fresh_node, fresh_pipe, opening, pipes_from, pipes_to}
@@ -138,7 +138,7 @@ module _ (F : Functions) (shape : Shape) (n : ℕ) (p : PhysicalNode) (s : Field
       let at = node_at w.nodes n p shown in
       (reached_passing o w sound r at.0 from to at.1 cf rf ct st).answers d
 
-  pub reached_faults : IsShort p.kind → FaultsByPart F p s → GivesFewer F p s → (o : Options) (w : World) → IsSound F shape → Reaches F shape o w → (from to : Pipe) → Contains w.pipes from → from.wire.receiver ≡ n → Contains w.pipes to → to.wire.sender ≡ n
+  pub reached_faults : NeverGrows p.kind → FaultsByPart F p s → GivesFewer F p s → (o : Options) (w : World) → IsSound F shape → Reaches F shape o w → (from to : Pipe) → Contains w.pipes from → from.wire.receiver ≡ n → Contains w.pipes to → to.wire.sender ≡ n
       → (q : Piece) → Contains w.outs q → q.node ≡ n → (c : Cause) → IsResult F q (bad c) → Faults F p (s ∷ []) (sent_by from ∷ []) c ⊎ Overflows F p (s ∷ []) (sent_by from ∷ []) c
   reached_faults short by_part fewer o w sound r from to cf rf ct st q cq qn c result =
       let shown : slice_get (shape_of w) n ≡ Some p = subst (λ x. slice_get x n ≡ Some p) (sym (replay_shape F (opening shape o) w r.0 r.1 ∙ fresh_shape shape)) there in

@@ -7,7 +7,7 @@ ghost use Rattle.ps_meaning.specs.Shape.{PhysicalNode, Shape};
 ghost use Rattle.ps_meaning.specs.Sound.{IsSound, input_schemas};
 ghost use Rattle.ps_options.specs.declared.options.Options.{Options};
 ghost use Rattle.ps_turns.specs.Tasks.{Handed};
-ghost use Rattle.ps_world.specs.Booking.{GivesAfter, HasBooked, IsPassing, IsShort, PassesAfter};
+ghost use Rattle.ps_world.specs.Booking.{GivesAfter, HasBooked, IsPassing, NeverGrows, PassesAfter};
 ghost use Rattle.ps_world.specs.Laws.{Faults, MakesFault, Overflows, sent_by};
 ghost use Rattle.ps_world.specs.Opening.{Reaches};
 ghost use Rattle.ps_world.specs.World.{Node, Pipe, World, handed_in, rows_in_order};
@@ -24,5 +24,5 @@ pub fn passing_nodes_book_what_they_take()
 
 /// A fault that is handed in for a piece of a passing node, but a streamable map, breaks the node whatever its input turns out to mean, or says that it has too many rows where its input has. No piece of a slice has one.
 pub fn pieces_of_passing_nodes_fault_as_these()
-    ensures { (F : Functions) (shape : Shape) (o : Options) (w : World) (n : ℕ) (p : PhysicalNode) (s : Fields) (from to : Pipe) (input number worker : ℕ) (handed : Handed) (c : Cause) → IsSound F shape → Reaches F shape o w → slice_get shape n ≡ Some p → IsShort p.kind → input_schemas shape p ≡ s ∷ [] → Contains w.pipes from → from.wire.receiver ≡ n → Contains w.pipes to → to.wire.sender ≡ n → MakesFault F w (handed_in n input number worker handed) n c → Faults F p (s ∷ []) (sent_by from ∷ []) c ⊎ Overflows F p (s ∷ []) (sent_by from ∷ []) c }
+    ensures { (F : Functions) (shape : Shape) (o : Options) (w : World) (n : ℕ) (p : PhysicalNode) (s : Fields) (from to : Pipe) (input number worker : ℕ) (handed : Handed) (c : Cause) → IsSound F shape → Reaches F shape o w → slice_get shape n ≡ Some p → NeverGrows p.kind → input_schemas shape p ≡ s ∷ [] → Contains w.pipes from → from.wire.receiver ≡ n → Contains w.pipes to → to.wire.sender ≡ n → MakesFault F w (handed_in n input number worker handed) n c → Faults F p (s ∷ []) (sent_by from ∷ []) c ⊎ Overflows F p (s ∷ []) (sent_by from ∷ []) c }
 {}

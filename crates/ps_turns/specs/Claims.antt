@@ -8,7 +8,7 @@ use Rattle.ps_meaning.specs.Shape.{PhysicalKind, PhysicalNode, equi_join, group_
 use Rattle.ps_meaning.specs.Joins.{fills_right}
 use Rattle.ps_meaning.specs.Steps.{JoinStep}
 use Rattle.ps_turns.specs.Cuts.{cut_of_source, is_exhausted}
-use Rattle.ps_turns.specs.Heads.{Head, common_length, is_ready}
+use Rattle.ps_turns.specs.Heads.{Head, common_length, is_ready_head}
 use Rattle.ps_options.specs.declared.options.Options.{Options}
 use Rattle.ps_turns.specs.Progress.{Progress, Stage, giving, taking}
 use Rattle.ps_turns.specs.Tasks.{Task, computes, gives_last, gives_part, hands_on, keeps, probes}
@@ -89,7 +89,7 @@ module _ (o : Options) (p : PhysicalNode) (ss : List Fields) where
   -- the next common length, where all heads are ready and one has a row
   abbrev pub of_heads : Bool → Progress → List Head → Option Claim
   of_heads extend progress hs =
-      cond (list_all (is_ready extend) hs && list_any (λ (h : Head). not (is_empty h.rest)) hs)
+      cond (list_all (is_ready_head extend) hs && list_any (λ (h : Head). not (is_empty h.rest)) hs)
       (Some (of_own (record progress { booked = progress.booked + common_length extend hs }) (computes p) ss (map (λ (h : Head). cond h.broadcasts h.rest (take (common_length extend hs) h.rest)) hs))) None
 
   -- a morsel that is kept

@@ -4,7 +4,7 @@ use Rattle.ps_frame.specs.Aggregates.{max_rows}
 use Rattle.ps_frame.specs.Tables.{Row}
 use Rattle.ps_meaning.specs.Shape.{PhysicalKind, in_memory_join, in_memory_map, in_memory_sink, multiplexer, negative_slice, zip_node}
 use Rattle.ps_turns.specs.Ends.{last_kept}
-use Rattle.ps_turns.specs.Heads.{Head, is_ready, no_head, stored_rows}
+use Rattle.ps_turns.specs.Heads.{Head, is_ready_head, no_head, stored_rows}
 use Rattle.ps_turns.specs.Progress.{Progress}
 
 abbrev pub pulls : PhysicalKind → Bool
@@ -40,8 +40,8 @@ passes_limit kind i progress = is_store kind && nat_lt max_rows (length (stored_
 abbrev pub closed_unready : Bool → List Head → (closed : List Bool) → Bool
 closed_unready extend [] cs = false
 closed_unready extend (h ∷ hs) [] = false
-closed_unready extend (h ∷ hs) (c ∷ cs) = (c && not (is_ready extend h)) || closed_unready extend hs cs
+closed_unready extend (h ∷ hs) (c ∷ cs) = (c && not (is_ready_head extend h)) || closed_unready extend hs cs
 
 abbrev pub wants : PhysicalKind → List Head → (closed : List Bool) → (input : ℕ) → Bool
-wants (zip_node extend) hs cs i = not (is_ready extend (get_or hs i no_head)) || closed_unready extend hs cs
+wants (zip_node extend) hs cs i = not (is_ready_head extend (get_or hs i no_head)) || closed_unready extend hs cs
 wants kind hs cs i = pulls kind

@@ -36,9 +36,9 @@ abbrev pub GivesAfter : Functions → PhysicalNode → Fields → (before : ℕ)
 GivesAfter F p s k a b = (U : Table) × CaseAfter F p p.kind k (rows_table s a) U × IsWhole U × (U.schema ≡ p.schema) × (U.rows ≡ b)
 
 -- a slice gives nothing more once it has booked all its rows
-abbrev pub IsFull : PhysicalKind → (before : ℕ) → Type 0
-IsFull (streaming_slice offset n) k = IsTrue (slice_is_over offset n k)
-IsFull kind k = ⊥
+abbrev pub GivesNoMore : PhysicalKind → (before : ℕ) → Type 0
+GivesNoMore (streaming_slice offset n) k = IsTrue (slice_is_over offset n k)
+GivesNoMore kind k = ⊥
 
 -- What is proved of every passing node: its tables have its schema, behind no rows its case is the node's own, it has a table over every input, none over no rows, over a front and the rest it has both, and no rows over anything once it is full.
 pub record GoesOn (F : Functions) (p : PhysicalNode) (s : Fields) : Type 0 where
@@ -47,7 +47,7 @@ pub record GoesOn (F : Functions) (p : PhysicalNode) (s : Fields) : Type 0 where
   pub total : (k : ℕ) (T : Table) → T.schema ≡ s → (U : Table) × CaseAfter F p p.kind k T U × (U.schema ≡ p.schema)
   pub over_none : (k : ℕ) → GivesAfter F p s k [] []
   pub over_front : (k : ℕ) (a b : List Row) (R V : Table) → R.schema ≡ s → V.schema ≡ p.schema → GivesAfter F p s k a b → CaseAfter F p p.kind (k + length a) R V → CaseAfter F p p.kind k (in_front a R) (in_front b V)
-  pub over_full : (k : ℕ) (T : Table) → T.schema ≡ s → IsFull p.kind k → (U : Table) × CaseAfter F p p.kind k T U × IsWhole U × (U.schema ≡ p.schema) × (U.rows ≡ [])
+  pub over_full : (k : ℕ) (T : Table) → T.schema ≡ s → GivesNoMore p.kind k → (U : Table) × CaseAfter F p p.kind k T U × IsWhole U × (U.schema ≡ p.schema) × (U.rows ≡ [])
 
 -- The local invariant of a passing node: what was claimed is there, and what was handed in is an answer to it, behind the rows of the morsels before.
 module _ (Answers : (before : ℕ) → List Row → List Row → Type 0) where
@@ -68,7 +68,7 @@ module _ (Answers : (before : ℕ) → List Row → List Row → Type 0) where
 
 pub record HoldsAfter (F : Functions) (p : PhysicalNode) (s : Fields) (from to : Pipe) : Type 0 where
   pub answers : PassesAfter (GivesAfter F p s) 0 from.got to.got
-  pub completes : IsTrue (sent_by to).is_complete → EndsAfter (GivesAfter F p s) (IsFull p.kind) (sent_by from).is_complete 0 from.got to.got
+  pub completes : IsTrue (sent_by to).is_complete → EndsAfter (GivesAfter F p s) (GivesNoMore p.kind) (sent_by from).is_complete 0 from.got to.got
 
 -- kinds whose nodes don't look at the rows before
 abbrev pub IsPlain : PhysicalKind → Type 0
@@ -119,9 +119,9 @@ abbrev pub GivesFewer : Functions → PhysicalNode → Fields → Type 0
 GivesFewer F p s = (k : ℕ) (a : List Row) (U : Table) → BeforeAfter F p p.kind k (rows_table s a) U → length U.rows ≤ length a
 
 -- kinds that do: all that compute but a map, whose function may answer a row by many
-abbrev pub IsShort : PhysicalKind → Type 0
-IsShort (stream_map step) = ⊥
-IsShort kind = Computes kind
+abbrev pub NeverGrows : PhysicalKind → Type 0
+NeverGrows (stream_map step) = ⊥
+NeverGrows kind = Computes kind
 
 -- a row index and a slice know how many rows came before
 abbrev pub HasBooked : PhysicalKind → Progress → (before : ℕ) → Type 0

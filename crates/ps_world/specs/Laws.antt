@@ -58,7 +58,7 @@ pub record Extends (s : Sent) (T : Table) : Type 0 where
   pub begins : s.rows ++ rest ≡ T.rows
   pub ends : IsTrue s.is_complete → (s.rows ≡ T.rows) × IsWhole T
 
--- FIRST PART. Whatever tables the inputs turn out to mean, if these extend what was received, the node may give a table that extends what it has sent on each port.
+-- The first part of a law: whatever tables the inputs turn out to mean, if these extend what was received, the node may give a table that extends what it has sent on each port.
 abbrev pub Justified : Functions → PhysicalNode → List Fields → List Sent → (ℕ → Sent) → Type 0
 Justified F p ss ins outs =
     (Ts : List Table) → schemas_of Ts ≡ ss → AllZip Extends ins Ts → (T : Table) × (T.schema ≡ p.schema) × PhysicalCase F p Ts T × ((k : ℕ) → Extends (outs k) T)
@@ -81,7 +81,7 @@ pub record ServedByChoice (F : Functions) (shape : Shape) (sent : ℕ → ℕ �
 abbrev pub IsForward : Shape → Type 0
 IsForward shape = (n : ℕ) (p : PhysicalNode) → slice_get shape n ≡ Some p → AllByRecursion (λ i. i.0 < n) p.inputs
 
--- FAULT PART. A cause breaks the node, whatever tables the inputs turn out to mean.
+-- The part on faults: a cause breaks the node, whatever tables the inputs turn out to mean.
 abbrev pub BreaksWhatever : Functions → PhysicalNode → List Fields → List Sent → Cause → Type 0
 BreaksWhatever F p ss ins c =
     (Ts : List Table) → schemas_of Ts ≡ ss → AllZip Extends ins Ts → (U : Table) × PhysicalBefore F p (as_step p.kind) (tables_for F p.kind Ts) U × Contains U.broken c
@@ -106,7 +106,7 @@ MakesFault F w (handed_in m i number worker handed) n c = (m ≡ n) × (q : Piec
 MakesFault F w (pulled m i number) n c = (m ≡ n) × (v : World) × Steps F w (pulled m i number) v × (v.ending ≡ faulty c)
 MakesFault F w _ n c = ⊥
 
--- SECOND PART. A node of the open phase that isn't closed may move, has a piece out, or waits for one input or one output.
+-- The second part: a node of the open phase that isn't closed may move, has a piece out, or waits for one input or one output.
 abbrev pub IsOut : World → Type 0
 IsOut w = w.outs ≢ []
 
@@ -136,7 +136,7 @@ pub record PhaseFacts (w : World) : Type 0 where
   -- a node that may wait for an output has that one alone
   pub one_output : (p q : Pipe) → IsStarved w p → IsFull w q → p.wire.sender ≡ q.wire.sender → p ≡ q
 
--- THIRD PART, of a settled world between phases, over its wires.
+-- The third part, of a settled world between phases, over its wires.
 abbrev pub IsReadySent : Wire → Type 0
 IsReadySent p = p.send_state ≡ port.Ready
 

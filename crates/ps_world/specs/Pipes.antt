@@ -1,4 +1,4 @@
--- Changes of pipes.
+-- How a step changes pipes, what a node has behind it, and which pipes are dropped.
 use Rattle.std.specs.Prelude.{ℕ, zero, suc, ◌+◌, Bool, true, false, cond, ◌&&◌, List, [], ◌∷◌, ◌++◌, map, length, Option, Some, None, nat_eq, slice_get, slice_set}
 use Rattle.ps_frame.specs.Tables.{Row}
 use Rattle.ps_turns.specs.Progress.{Progress}

@@ -1,7 +1,6 @@
 -- What is promised of every reached world.
-use Rattle.std.specs.Prelude.{◌≡◌, ℕ, ◌+◌, ◌*◌, ◌≤◌, ◌⊎◌, Bool, ◌&&◌, List, [], length, Some, get_or, slice_get, Contains, IsFalse, IsTrue, None}
+use Rattle.std.specs.Prelude.{◌≡◌, ℕ, ◌+◌, ◌*◌, ◌≤◌, ◌⊎◌, Bool, ◌&&◌, List, [], length, Some, get_or, slice_get, nat_eq, nat_le, Contains, IsFalse, IsTrue, None}
 use Rattle.std.specs.List.{count_by, list_all}
-use Rattle.std.specs.Prelude.{nat_eq, nat_le}
 use Rattle.ps_frame.specs.Causes.{Cause}
 use Rattle.ps_frame.specs.Functions.{Functions}
 use Rattle.ps_frame.specs.Tables.{IsWhole, Row, Table}
@@ -11,7 +10,7 @@ use Rattle.ps_turns.specs.Results.{rows_fault}
 use Rattle.ps_meaning.specs.Cases.{end_of}
 use Rattle.ps_world.specs.Claims.{claim_at, inputs_in_phase, next_morsel}
 use Rattle.ps_world.specs.Pipes.{is_input}
-use Rattle.ps_world.specs.World.{Node, Record, World, claimed, ended, faulty, finished, handed_in, in_flight, counts_for_sender, is_cut_off, opened, Pipe, running}
+use Rattle.ps_world.specs.World.{Node, Record, World, claimed, ended, faulty, finished, handed_in, in_flight, counts_for_sender, is_cut_off, opened, Pipe, running, shape_of}
 use Rattle.ps_world.specs.Step.{Replays, Steps}
 use Rattle.ps_world.specs.Laws.{AllDone, IsOut, MayStep, ServedByChoice, sent_at}
 
@@ -27,7 +26,7 @@ is_hand_in_of n i k _ = Bool.false
 -- each number of a node without inputs is claimed at most once, and handed in at most once, after its claim
 abbrev pub IsClaimedOnce : World → Type 0
 IsClaimedOnce w =
-    (n k : ℕ) (p : PhysicalNode) → slice_get (Rattle.ps_world.specs.World.shape_of w) n ≡ Some p → p.inputs ≡ []
+    (n k : ℕ) (p : PhysicalNode) → slice_get (shape_of w) n ≡ Some p → p.inputs ≡ []
     → (count_by (is_claim_of n 0 k) w.journal ≤ 1) × (count_by (is_hand_in_of n 0 k) w.journal ≤ count_by (is_claim_of n 0 k) w.journal)
 
 -- Where a phase ends, every number that was claimed was handed in.

@@ -1,4 +1,4 @@
--- The steps between worlds. A step changes one node, the pipes around it and the pieces out, and appends its record.
+-- The steps between worlds. Between an Open and the end of its phase a step changes one node, the pipes around it and the pieces out, and appends its record.
 use Rattle.std.specs.Prelude.{◌≡◌, ℕ, ◌+◌, not, ◌&&◌, List, [], ◌∷◌, Some, slice_get, Contains, IsTrue, IsFalse}
 use Rattle.std.specs.List.{AllByRecursion}
 use Rattle.ps_frame.specs.Causes.{Cause}

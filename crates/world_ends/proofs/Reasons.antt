@@ -14,7 +14,7 @@ use Rattle.ps_ports.specs.declared.port_state.PortState.{PortState}
 use Rattle.ps_ports.specs.declared.port_state.PortState.TheVariants as port
 use Rattle.ps_turns.specs.Claims.{Claim, Next, claim_by, of_join, of_left, of_made, of_parts, of_reduce, owes_last}
 use Rattle.ps_turns.specs.Cuts.{is_exhausted}
-use Rattle.ps_turns.specs.Heads.{Head, heads_by, is_ready as is_ready_head, stored_inputs}
+use Rattle.ps_turns.specs.Heads.{Head, heads_by, is_ready_head, stored_inputs}
 use Rattle.ps_turns.specs.Progress.{Progress, Stage, giving, is_giving, is_multiplexer, spent, taking}
 use Rattle.ps_turns.specs.Updates.{answer_by, done_on_both, exhausted_rows, join_answer, keeper_answer, multiplexer_answer, next_stage, passing_answer, port_answers, shape_fault, slice_is_over, stage_after, undone_empty, union_inputs, union_output, zip_is_over}
 use Rattle.world_ends.proofs.Stored.{HasMade, HasStores}

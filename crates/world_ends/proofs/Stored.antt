@@ -10,7 +10,7 @@ use Rattle.ps_options.specs.declared.options.Options.{Options}
 use Rattle.ps_ports.specs.Ports.{Sides, all_done, first_port, is_done}
 use Rattle.ps_turns.specs.Claims.{Claim, Next, claim_by, of_made, of_own}
 use Rattle.ps_turns.specs.Cuts.{cut_of_source, is_exhausted}
-use Rattle.ps_turns.specs.Heads.{Head, is_ready}
+use Rattle.ps_turns.specs.Heads.{Head, is_ready_head}
 use Rattle.ps_turns.specs.Progress.{Progress, Stage, giving, is_giving, is_user_step, makes_table, spent, taking}
 use Rattle.ps_turns.specs.Pulls.{after_store}
 use Rattle.ps_turns.specs.Tasks.{hands_on}
@@ -153,7 +153,7 @@ by_tests false e x c q = absurd (let no : None ≡ Some c = q in cc)
 
 claimed_stores : (o : Options) (p : PhysicalNode) (ss : List Fields) (a : Progress) (hs : List Head) (ds : List Bool) (i : ℕ) (next : Next) (c : Claim) (k : ℕ) (kind : PhysicalKind) → claim_by o p ss kind a hs ds i next ≡ Some c → HasStores k kind a → HasStores k kind c.progress
 claimed_stores o p ss a hs ds i next c k (zip_node extend) e has =
-    let same = by_tests (nat_eq i 0) (list_all (is_ready extend) hs && list_any (λ (h : Head). not (is_empty h.rest)) hs) _ c e in sym (ap (λ (x : Claim). length x.progress.stores) same) ∙ has
+    let same = by_tests (nat_eq i 0) (list_all (is_ready_head extend) hs && list_any (λ (h : Head). not (is_empty h.rest)) hs) _ c e in sym (ap (λ (x : Claim). length x.progress.stores) same) ∙ has
 claimed_stores o p ss a hs ds i next c k kind e has = tt
 
 pulled_stores : (i : ℕ) (m : List Row) (a : Progress) (k : ℕ) (kind : PhysicalKind) → HasStores k kind a → HasStores k kind (after_store kind i m a)

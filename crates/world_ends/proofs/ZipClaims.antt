@@ -10,7 +10,7 @@ use Rattle.ps_frame.specs.Zip.{all_same}
 use Rattle.ps_meaning.specs.Shape.{PhysicalNode, zip_node}
 use Rattle.ps_ports.specs.Ports.{Sides, all_done, first_port, is_done}
 use Rattle.ps_ports.specs.declared.port_state.PortState.{PortState}
-use Rattle.ps_turns.specs.Heads.{Head, Stored, head_lengths, head_of, heads_by, is_ready, is_single, stored_inputs, stored_rows}
+use Rattle.ps_turns.specs.Heads.{Head, Stored, head_lengths, head_of, heads_by, is_ready_head, is_single, stored_inputs, stored_rows}
 use Rattle.ps_turns.specs.Updates.{shape_fault, zip_is_over}
 use Rattle.world_facts.proofs.CutOff.{and_true, both_true}
 use Rattle.world_facts.proofs.Slots.{all_at}
@@ -93,10 +93,10 @@ ready_by false false l e o = absurd (let no : false ≡ true = o in cc)
 ready_by true o' l e o = absurd (let no : true ≡ false = e in cc)
 
 -- it is known whether the head of an input that is done broadcasts
-ready_plain : (spent : Bool) (k : ℕ) (s : Stored) → s.is_over ≡ true → is_empty (head_of false spent k s).rest ≡ false → is_ready false (head_of false spent k s) ≡ true
+ready_plain : (spent : Bool) (k : ℕ) (s : Stored) → s.is_over ≡ true → is_empty (head_of false spent k s).rest ≡ false → is_ready_head false (head_of false spent k s) ≡ true
 ready_plain spent k s over some = ready_by (is_empty (head_of false spent k s).rest) s.is_over (nat_lt 1 (length s.rows)) some over
 
-ready_filling : (spent : Bool) (k : ℕ) (s : Stored) → s.is_over ≡ true → is_ready true (head_of true spent k s) ≡ true
+ready_filling : (spent : Bool) (k : ℕ) (s : Stored) → s.is_over ≡ true → is_ready_head true (head_of true spent k s) ≡ true
 ready_filling spent k s over = or_right (not (is_empty (drop k s.rows)) && true) s.is_over over
 
 -- a zip that isn't over: not every head is broadcast or empty, or all are broadcast
@@ -118,7 +118,7 @@ module _ (given : Sides) (k : ℕ) (stores : List (List (List Row))) (done : all
   inputs = stored_inputs (map is_done given.inputs) stores
 
   abbrev Tests : Bool → List Head → Type 0
-  Tests extend hs = (list_all (is_ready extend) hs && list_any has_rows hs) ≡ true
+  Tests extend hs = (list_all (is_ready_head extend) hs && list_any has_rows hs) ≡ true
 
   one : (s : Stored) × Contains inputs s
   one = some_stored (map is_done given.inputs) stores (omega arith)
@@ -137,8 +137,8 @@ module _ (given : Sides) (k : ℕ) (stores : List (List (List Row))) (done : all
     -- with filling one head has rows, and each is ready
     filling : zip_is_over (heads true) given ≡ false → Tests true (heads true)
     filling open_zip =
-        and_true (list_all (is_ready true) (heads true)) (list_any has_rows (heads true))
-        (every (is_ready true) (heads true) (λ h c. let s = from_input true h c in subst (λ (x : Head). is_ready true x ≡ true) s.2 (ready_filling spent k s.0 (over s.0 s.1))))
+        and_true (list_all (is_ready_head true) (heads true)) (list_any has_rows (heads true))
+        (every (is_ready_head true) (heads true) (λ h c. let s = from_input true h c in subst (λ (x : Head). is_ready_head true x ≡ true) s.2 (ready_filling spent k s.0 (over s.0 s.1))))
         (by (not_over (is_done (first_port given.outputs)) (all_done given.inputs) (list_all (λ (h : Head). h.broadcasts || is_empty h.rest) (heads true)) (list_all (λ (h : Head). h.broadcasts) (heads true)) open_zip done))
       where
         by : (list_all (λ (h : Head). h.broadcasts || is_empty h.rest) (heads true) ≡ false) ⊎ (list_all (λ (h : Head). h.broadcasts) (heads true) ≡ true) → list_any has_rows (heads true) ≡ true
@@ -170,11 +170,11 @@ module _ (given : Sides) (k : ℕ) (stores : List (List (List Row))) (done : all
     plain : all_same (head_lengths false (heads false)) ≡ true → zip_is_over (heads false) given ≡ false → Tests false (heads false)
     plain same open_zip =
         let each = each_has same (not_over (is_done (first_port given.outputs)) (all_done given.inputs) (list_all (λ (h : Head). h.broadcasts || is_empty h.rest) (heads false)) (list_all (λ (h : Head). h.broadcasts) (heads false)) open_zip done) in
-        and_true (list_all (is_ready false) (heads false)) (list_any has_rows (heads false))
-        (every (is_ready false) (heads false) (λ h c. let s = from_input false h c in subst (λ (x : Head). is_ready false x ≡ true) s.2 (ready_plain spent k s.0 (over s.0 s.1) (each s.0 s.1))))
+        and_true (list_all (is_ready_head false) (heads false)) (list_any has_rows (heads false))
+        (every (is_ready_head false) (heads false) (λ h c. let s = from_input false h c in subst (λ (x : Head). is_ready_head false x ≡ true) s.2 (ready_plain spent k s.0 (over s.0 s.1) (each s.0 s.1))))
         (list_any-contains has_rows (head_of false spent k one.0) (heads false) (contains_map (head_of false spent k) one.0 inputs one.1) (not_false (is_empty (head_of false spent k one.0).rest) (each one.0 one.1)))
 
-  pub zip_tests : (p : PhysicalNode) (extend : Bool) (hs : List Head) → hs ≡ heads_by extend k inputs → shape_fault p (zip_node extend) hs given ≡ None → zip_is_over hs given ≡ false → (list_all (is_ready extend) hs && list_any (λ (h : Head). not (is_empty h.rest)) hs) ≡ true
+  pub zip_tests : (p : PhysicalNode) (extend : Bool) (hs : List Head) → hs ≡ heads_by extend k inputs → shape_fault p (zip_node extend) hs given ≡ None → zip_is_over hs given ≡ false → (list_all (is_ready_head extend) hs && list_any (λ (h : Head). not (is_empty h.rest)) hs) ≡ true
   zip_tests p true hs e fault open_zip =
       subst (Tests true) (sym e) (filling (list_all (is_single true) inputs && nat_lt 0 k) (subst (λ xs. zip_is_over xs given ≡ false) e open_zip))
   zip_tests p false hs e fault open_zip =

@@ -4,7 +4,7 @@ use Rattle.std.specs.Prelude.{IsTrue}
 use Rattle.ps_frame.specs.Functions.{Functions}
 use Rattle.ps_frame.specs.Tables.{Fields, IsWhole, Row, Table}
 use Rattle.ps_meaning.specs.Shape.{PhysicalCase, PhysicalKind, PhysicalNode, equi_join, filter_node, group_by_node, in_memory_join, in_memory_map, in_memory_sink, in_memory_source, independent_select, multiplexer, negative_slice, ordered_union, reduce, select_node, simple_projection, stream_map, streaming_slice, with_row_index, zip_node}
-use Rattle.ps_world.specs.Booking.{CaseAfter, EndsAfter, GivesAfter, GoesOn, HoldsAfter, IsFull, IsPlain, PassesAfter}
+use Rattle.ps_world.specs.Booking.{CaseAfter, EndsAfter, GivesAfter, GoesOn, HoldsAfter, GivesNoMore, IsPlain, PassesAfter}
 use Rattle.ps_world.specs.Laws.{sent_by, Extends, Justified}
 use Rattle.ps_world.specs.Passing.{in_front, GoesPiecewise, one_port}
 use Rattle.ps_world.specs.World.{Pipe, rows_in_order}
@@ -57,7 +57,7 @@ module _ (F : Functions) (p : PhysicalNode) (s : Fields) (law : GoesOn F p s) wh
     whole : IsWhole out
     all : rows ≡ out.rows
 
-  all-passed : (c : Bool) (k : ℕ) (is os : List (Option (List Row))) → EndsAfter (GivesAfter F p s) (IsFull p.kind) c k is os → (T : Table) → T.schema ≡ s → (rest : List Row) → rows_in_order is ++ rest ≡ T.rows → (IsTrue c → (rest ≡ []) × IsWhole T) → Done k T (rows_in_order os)
+  all-passed : (c : Bool) (k : ℕ) (is os : List (Option (List Row))) → EndsAfter (GivesAfter F p s) (GivesNoMore p.kind) c k is os → (T : Table) → T.schema ≡ s → (rest : List Row) → rows_in_order is ++ rest ≡ T.rows → (IsTrue c → (rest ≡ []) × IsWhole T) → Done k T (rows_in_order os)
   all-passed c k is [] (inl h) T e rest q w =
       let u = law.over_none k in
       let same : record { schema = s; rows = []; broken = [] } ≡ T = λ i. record { schema = sym e i; rows = (sym (w h.0).0 ∙ ap (λ js. rows_in_order js ++ rest) (sym h.1) ∙ q) i; broken = sym (w h.0).1 i } in

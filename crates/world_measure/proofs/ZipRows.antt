@@ -6,7 +6,7 @@ use Rattle.std.proofs.lemmas.Bool.Decides.{nat_tests}
 use Rattle.std.proofs.Math.Nat.{le-min}
 use Rattle.ps_frame.specs.Causes.{is_empty}
 use Rattle.ps_frame.specs.Tables.{Row}
-use Rattle.ps_turns.specs.Heads.{Head, Stored, common_length, head_lengths, head_of, heads_by, is_ready, is_single, least, stored_inputs, stored_rows}
+use Rattle.ps_turns.specs.Heads.{Head, Stored, common_length, head_lengths, head_of, heads_by, is_ready_head, is_single, least, stored_inputs, stored_rows}
 use Rattle.world_facts.proofs.Slots.{all_at, some_at}
 use Rattle.world_laws.proofs.Agree.{from_map}
 use Rattle.world_laws.proofs.InOrder.{contains_cases, contains_first, contains_later, contains_map, none_in_nil}
@@ -29,7 +29,7 @@ not_empty true true true k d ready counts = absurd (let no : false ≡ true = co
 not_empty true false true k d ready counts = absurd (let no : false ≡ true = counts in cc)
 not_empty false b true k d ready counts = absurd (let no : false ≡ true = ready in cc)
 
-lengths_some : (extend : Bool) (hs : List Head) → ((h : Head) → Contains hs h → is_ready extend h ≡ true) → AllByRecursion (λ n. 0 < n) (head_lengths extend hs)
+lengths_some : (extend : Bool) (hs : List Head) → ((h : Head) → Contains hs h → is_ready_head extend h ≡ true) → AllByRecursion (λ n. 0 < n) (head_lengths extend hs)
 lengths_some extend [] ready = tt
 lengths_some extend (h ∷ hs) ready = by (not h.broadcasts && not (extend && is_empty h.rest)) refl (lengths_some extend hs (λ x c. ready x (contains_later h x hs c)))
   where
@@ -88,7 +88,7 @@ plain_rest extend spent k s e some = behind k s.rows (sym (ap (λ b. is_empty (c
 
 module _ (k : ℕ) (ss : List Stored) where
   -- some input has a row that isn't booked
-  some_row : (extend all : Bool) → list_all (is_single extend) ss ≡ all → ((s : Stored) → Contains ss s → is_ready extend (head_of extend (all && nat_lt 0 k) k s) ≡ true)
+  some_row : (extend all : Bool) → list_all (is_single extend) ss ≡ all → ((s : Stored) → Contains ss s → is_ready_head extend (head_of extend (all && nat_lt 0 k) k s) ≡ true)
       → (s : Stored) × Contains ss s × (is_empty (head_of extend (all && nat_lt 0 k) k s).rest ≡ false) → (s : Stored) × Contains ss s × (k < length s.rows)
   some_row true all a ready (s, c, some) = (s, c, plain_rest true (all && nat_lt 0 k) k s refl some)
   some_row false false a ready one =
@@ -115,10 +115,10 @@ module _ (extend : Bool) (k : ℕ) (ds : List Bool) (stores : List (List (List R
   abbrev spent : Bool
   spent = list_all (is_single extend) ss && nat_lt 0 k
 
-  pub zip_falls : (hs : List Head) → hs ≡ heads_by extend k ss → (list_all (is_ready extend) hs && list_any (λ (h : Head). not (is_empty h.rest)) hs) ≡ true → rows_left (k + common_length extend hs) stores < rows_left k stores
+  pub zip_falls : (hs : List Head) → hs ≡ heads_by extend k ss → (list_all (is_ready_head extend) hs && list_any (λ (h : Head). not (is_empty h.rest)) hs) ≡ true → rows_left (k + common_length extend hs) stores < rows_left k stores
   zip_falls hs same tests =
-      let parts = both (list_all (is_ready extend) hs) (list_any (λ (h : Head). not (is_empty h.rest)) hs) tests in
-      let ready : (h : Head) → Contains hs h → is_ready extend h ≡ true = λ h c. all_at (is_ready extend) hs h parts.0 c in
+      let parts = both (list_all (is_ready_head extend) hs) (list_any (λ (h : Head). not (is_empty h.rest)) hs) tests in
+      let ready : (h : Head) → Contains hs h → is_ready_head extend h ≡ true = λ h c. all_at (is_ready_head extend) hs h parts.0 c in
       let some = some_at (λ (h : Head). not (is_empty h.rest)) hs parts.1 in
       let from = from_map (head_of extend spent k) some.0 ss (subst (λ xs. Contains xs some.0) same some.1) in
       let one = some_row k ss extend (list_all (is_single extend) ss) refl (λ s c. ready (head_of extend spent k s) (subst (λ xs. Contains xs (head_of extend spent k s)) (sym same) (contains_map (head_of extend spent k) s ss c)))

@@ -10,7 +10,7 @@ use Rattle.ps_meaning.specs.Shape.{zip_node}
 use Rattle.ps_ports.specs.Ports.{is_done, is_ready}
 use Rattle.ps_ports.specs.Wires.{Wire, wires_in}
 use Rattle.ps_turns.specs.Claims.{Claim, claim_by}
-use Rattle.ps_turns.specs.Heads.{Head, heads_by, is_ready as is_ready_head, no_head, stored_inputs}
+use Rattle.ps_turns.specs.Heads.{Head, heads_by, is_ready_head, no_head, stored_inputs}
 use Rattle.ps_turns.specs.Progress.{is_multiplexer}
 use Rattle.ps_turns.specs.Pulls.{closed_unready, pulls, wants}
 use Rattle.ps_turns.specs.Tasks.{Piece}

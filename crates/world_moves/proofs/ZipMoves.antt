@@ -4,7 +4,7 @@ use Rattle.std.specs.Prelude.{get_or, map, nat_lt, not, ◌&&◌, ◌||◌}
 use Rattle.std.specs.List.{list_all, list_any}
 use Rattle.ps_frame.specs.Causes.{is_empty}
 use Rattle.ps_frame.specs.Tables.{Row}
-use Rattle.ps_turns.specs.Heads.{Head, head_of, heads_by, is_ready, is_single, no_head, stored_inputs}
+use Rattle.ps_turns.specs.Heads.{Head, head_of, heads_by, is_ready_head, is_single, no_head, stored_inputs}
 use Rattle.ps_turns.specs.Pulls.{closed_unready}
 use Rattle.world_facts.proofs.CutOff.{and_true}
 use Rattle.world_facts.proofs.Placing.{map_length}
@@ -16,11 +16,11 @@ is_needed true true e h = refl
 is_needed true false e h = absurd (let no : true ≡ false = e in cc)
 is_needed false r e h = absurd (let no : false ≡ true = h in cc)
 
-pub closed_ready : (extend : Bool) (hs : List Head) (cs : List Bool) (j : ℕ) → closed_unready extend hs cs ≡ false → j < length hs → get_or cs j false ≡ true → is_ready extend (get_or hs j no_head) ≡ true
+pub closed_ready : (extend : Bool) (hs : List Head) (cs : List Bool) (j : ℕ) → closed_unready extend hs cs ≡ false → j < length hs → get_or cs j false ≡ true → is_ready_head extend (get_or hs j no_head) ≡ true
 closed_ready extend [] cs j e h c = absurd (omega arith)
 closed_ready extend (x ∷ hs) [] j e h c = absurd (let no : false ≡ true = c in cc)
-closed_ready extend (x ∷ hs) (b ∷ cs) zero e h c = is_needed b (is_ready extend x) (neither (b && not (is_ready extend x)) (closed_unready extend hs cs) e).0 c
-closed_ready extend (x ∷ hs) (b ∷ cs) (suc j) e h c = closed_ready extend hs cs j (neither (b && not (is_ready extend x)) (closed_unready extend hs cs) e).1 (omega arith) c
+closed_ready extend (x ∷ hs) (b ∷ cs) zero e h c = is_needed b (is_ready_head extend x) (neither (b && not (is_ready_head extend x)) (closed_unready extend hs cs) e).0 c
+closed_ready extend (x ∷ hs) (b ∷ cs) (suc j) e h c = closed_ready extend hs cs j (neither (b && not (is_ready_head extend x)) (closed_unready extend hs cs) e).1 (omega arith) c
 
 every_at : (t : Head → Bool) (hs : List Head) → ((j : ℕ) → j < length hs → t (get_or hs j no_head) ≡ true) → list_all t hs ≡ true
 every_at t [] h = refl
@@ -62,10 +62,10 @@ by_rows true k true false e g = absurd (let no : false ≡ true = e in cc)
 by_rows true k false d e g = absurd (let no : false ≡ true = e in cc)
 
 pub zip_has_claim : (extend : Bool) (k : ℕ) (ds : List Bool) (stores : List (List (List Row))) (hs : List Head) → hs ≡ heads_by extend k (stored_inputs ds stores) → (i : ℕ) → i < length stores → get_or ds i false ≡ false
-    → ((j : ℕ) → j < length hs → is_ready extend (get_or hs j no_head) ≡ true) → (list_all (is_ready extend) hs && list_any (λ (h : Head). not (is_empty h.rest)) hs) ≡ true
+    → ((j : ℕ) → j < length hs → is_ready_head extend (get_or hs j no_head) ≡ true) → (list_all (is_ready_head extend) hs && list_any (λ (h : Head). not (is_empty h.rest)) hs) ≡ true
 zip_has_claim extend k ds stores hs same i h open_input ready =
     let long : length hs ≡ length stores = ap length same ∙ heads_long extend k ds stores in
     let done : (get_or hs i no_head).input_done ≡ false = ap (λ xs. (get_or xs i no_head).input_done) same ∙ done_by extend (list_all (is_single extend) (stored_inputs ds stores) && nat_lt 0 k) k ds stores i h ∙ open_input in
     let head = get_or hs i no_head in
-    and_true (list_all (is_ready extend) hs) (list_any (λ (x : Head). not (is_empty x.rest)) hs) (every_at (is_ready extend) hs ready)
+    and_true (list_all (is_ready_head extend) hs) (list_any (λ (x : Head). not (is_empty x.rest)) hs) (every_at (is_ready_head extend) hs ready)
     (some_at_place (λ (x : Head). not (is_empty x.rest)) hs i (omega (arith, long, h)) (by_rows (is_empty head.rest) head.is_known extend head.input_done (ready i (omega (arith, long, h))) done))

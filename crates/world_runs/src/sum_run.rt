@@ -1,6 +1,6 @@
 // The four Opens of a run that sums one column beside another: worlds at rest and their phases, as theorems of functions that do nothing.
 ghost use Rattle.std.specs.Prelude.{◌≡◌, true, false, [], ◌∷◌, map};
-ghost use Rattle.ps_turns.specs.Heads.{Head, is_ready};
+ghost use Rattle.ps_turns.specs.Heads.{Head, is_ready_head};
 ghost use Rattle.world_runs.specs.Examples.{one_worker, sum_shape};
 ghost use Rattle.ps_world.specs.Opening.{opening};
 ghost use Rattle.ps_world.specs.Phases.{after_open, blockers_in, nodes_of_phase};
@@ -23,14 +23,14 @@ pub fn second_open()
     ensures second_settled { IsSettled s2 }
     ensures second_blockers { blockers_in s2 ≡ 5 ∷ [] }
     ensures second_phase { nodes_of_phase s2 ≡ 1 ∷ 2 ∷ 3 ∷ 4 ∷ 5 ∷ [] }
-    ensures not_known { map (is_ready false) (heads_of storing 3 (node_of storing 3)) ≡ true ∷ false ∷ [] }
+    ensures not_known { map (is_ready_head false) (heads_of storing 3 (node_of storing 3)) ≡ true ∷ false ∷ [] }
 {}
 
 /// With both inputs of the zip done, the one row broadcasts.
 pub fn third_open()
     ensures third_settled { IsSettled s3 }
     ensures third_phase { nodes_of_phase s3 ≡ 3 ∷ 4 ∷ 5 ∷ [] }
-    ensures now_ready { map (is_ready false) (heads_of s3 3 (node_of s3 3)) ≡ true ∷ true ∷ [] }
+    ensures now_ready { map (is_ready_head false) (heads_of s3 3 (node_of s3 3)) ≡ true ∷ true ∷ [] }
     ensures it_broadcasts { map (λ (h : Head). h.broadcasts) (heads_of s3 3 (node_of s3 3)) ≡ false ∷ true ∷ [] }
 {}
 
