@@ -1,5 +1,5 @@
 -- The world of a run: the nodes with what they have behind them, the pipes with all that they ever got, and the pieces out.
-use Rattle.std.specs.Prelude.{ℕ, ◌+◌, ◌-◌, Bool, false, not, cond, ◌&&◌, ◌||◌, List, [], ◌∷◌, ◌++◌, map, length, Option, Some, None, nat_eq, nat_lt, slice_get, drop, is_some}
+use Rattle.std.specs.Prelude.{◌≡◌, ℕ, ◌+◌, ◌-◌, Bool, false, not, cond, ◌&&◌, ◌||◌, List, [], ◌∷◌, ◌++◌, map, length, Option, Some, None, nat_eq, nat_lt, slice_get, drop, is_some, IsTrue}
 use Rattle.std.specs.List.{list_any, list_all, count_by, filter as kept}
 use Rattle.ps_frame.specs.Causes.{Cause, is_empty}
 use Rattle.ps_frame.specs.Sorting.{in_order}
