@@ -132,7 +132,7 @@ module _ (o : Options) (p : PhysicalNode) (ss : List Fields) (a : Progress) (hs 
   form (in_memory_map step) q = made o p ss a hs ds i next c (in_memory_map step) refl (λ st e t. ap is_taking e ∙ t) a.stage a.made refl q
   form (in_memory_join j) q = made o p ss a hs ds i next c (in_memory_join j) refl (λ st e t. ap is_taking e ∙ t) a.stage a.made refl q
   form (negative_slice back n) q = made o p ss a hs ds i next c (negative_slice back n) refl (λ st e t. ap is_taking e ∙ t) a.stage a.made refl q
-  form (zip_node extend) q = own o p ss a hs ds i next c (zip_node extend) refl refl _ (by_second (nat_eq i 0) (list_all (Rattle.ps_turns.specs.Heads.is_ready extend) hs && list_any (λ (h : Head). not (is_empty h.rest)) hs) _ c q) refl refl refl refl refl refl refl
+  form (zip_node extend) q = own o p ss a hs ds i next c (zip_node extend) refl refl _ (by_second (nat_eq i 0) (list_all (Rattle.ps_turns.specs.Heads.is_ready_head extend) hs && list_any (λ (h : Head). not (is_empty h.rest)) hs) _ c q) refl refl refl refl refl refl refl
   form (reduce es) q = reduced o p ss a hs ds i next c es a.stage refl q
   form (group_by_node keys aggregates) q = parted o p ss a hs ds i next c keys aggregates a.stage refl q
   form (equi_join j) q = joined o p ss a ds i next c j a.stage refl q
