@@ -1,7 +1,7 @@
 -- Loops over aggregates.
 use Rattle.std.proofs.Common.{◌≡◌, ℕ, zero, suc, ◌+◌, ◌-◌, ◌<◌, List, [], ◌∷◌, ◌++◌, length, get_or, map, take, drop, sym, ap, subst, ◌∙◌, inl, inr, arith}
 use Rattle.std.specs.Prelude.{None, Some, option_map, slice_get}
-use Rattle.std.specs.List.{AllZip}
+use Rattle.std.specs.List.{AllByRecursion, AllZip}
 use Rattle.std.proofs.lemmas.List.{get_or-map, length-map, map_more, map-append}
 use Rattle.std.proofs.lemmas.Option.{same_Some}
 use Rattle.pu_base.specs.declared.arena.Node.{Node}
@@ -17,6 +17,12 @@ use Rattle.ps_meaning.specs.declared.options.ExprIR.{ExprIR}
 use Rattle.ps_zip.proofs.Steps.{zip-append}
 use Rattle.ps_groups.specs.Errors.{IsErrorAt}
 use Rattle.ps_groups.specs.Grouped.{IsAggregate, IsFaultOfAny, IsFaultOver, last_fields}
+
+-- what holds of each image
+pub all-image : {A B : Type 0} (P : B → Type 0) (f : A → B) (xs : List A) (i : ℕ) (x : A) → i < length xs → x ≡ get_or xs i x → AllByRecursion P (map f xs) → P (f x)
+all-image P f [] i x h at' a = absurd (omega arith)
+all-image P f (y ∷ xs) zero x h at' a = subst (λ z. P (f z)) (sym at') a.0
+all-image P f (y ∷ xs) (suc i) x h at' a = all-image P f xs i x (omega arith) at' a.1
 
 -- the kind of a field behind some others
 kind-behind : (from i : ℕ) (schema : Fields) (k : DataType) → option_map (λ (g : List ℕ × DataType). g.1) (slice_get schema (from + i)) ≡ Some k → get_or (map Some (kinds_of (drop from schema))) i None ≡ Some k

@@ -3,9 +3,8 @@ use Rattle.std.specs.Prelude.{Some, option_map, slice_get}
 use Rattle.ps_frame.specs.Trees.{IsComplete, tree_at}
 use Rattle.ps_frame.specs.declared.value.DataType.{DataType}
 use Rattle.ps_meaning.specs.declared.options.ExprIR.{ExprIR}
-use Rattle.ps_zip.proofs.Steps.{all-image}
 use Rattle.ps_groups.specs.GroupTables.{group_tables}
-use Rattle.ps_groups.proofs.AggregateLoops.{columns-more, error-of-any, kind-of-field, kinds-more}
+use Rattle.ps_groups.proofs.AggregateLoops.{all-image, columns-more, error-of-any, kind-of-field, kinds-more}
 use Rattle.ps_groups.proofs.aggregates.aggregate_columns.Goals as goal
 
 pub aggregate_column-requires-clause-expression : goal.aggregate_column-requires-clause-expression
