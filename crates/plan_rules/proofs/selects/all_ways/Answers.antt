@@ -1,0 +1,7 @@
+use Rattle.std.specs.Prelude.{refl}
+use Rattle.std.specs.Fmt.{digits}
+use Rattle.plan_rules.proofs.selects.all_ways.Goals as goal
+
+pub returns : goal.returns
+unfolding digits
+returns c F = refl
