@@ -1,0 +1,2 @@
+mod SameNames
+mod SmallPlans

@@ -1,0 +1,2 @@
+pub mod PhysicalPlans
+pub mod Worked
