@@ -1,29 +1,23 @@
-//! Whether expressions read their input, remembered by their numbers.
-ghost use Rattle.std.specs.Prelude.{◌≡◌, ◌==◌, ◌&&◌, ◌<◌, ℕ, [], Err, IfOk, OnErr, OnOk, Some, length, if◌then◌else◌};
-ghost use Rattle.ps_frame.specs.Trees.{AreComplete, IsExpression, tree_at, trees_of};
-ghost use Rattle.ps_frame.specs.Typing.{every_part_of_all, is_independent, reads_no_input};
+//! What a lowering knows of expressions: whether they read their input, and whether they are elementwise.
+ghost use Rattle.std.specs.Prelude.{◌≡◌, [], Err, IfOk, OnErr};
+ghost use Rattle.ps_frame.specs.Trees.{IsExpression, tree_at};
+ghost use Rattle.ps_frame.specs.Typing.{is_elementwise as is_elementwise_tree, is_independent};
 ghost use Rattle.ps_frame.specs.declared.refusal.PolarsError.{PolarsError};
-ghost use Rattle.ps_plan.specs.Graph.{aggregate_operand};
-ghost use Rattle.ps_fresh.specs.Known.{Remembers, known_at};
+ghost use Rattle.ps_fresh.specs.Known.{Remembers};
 
-use ps_frame::expr::{AExpr, IRAggExpr, entry};
-use ps_frame::refusal::{PolarsError, PolarsResult};
+use crate::elementwise::is_elementwise_expr;
+use crate::independent::is_independent_expr;
+use crate::known::KnownAnswers;
+use ps_frame::expr::AExpr;
+use ps_frame::refusal::PolarsResult;
 use pu_base::{Arena, Node};
 use std::alloc::Global;
-use std::marker::Model;
 
 /// What is known of expressions. A cache is used with one arena alone, to which entries may be added.
 #[derive(Drop)]
 pub struct ExprCache {
-    known: Vec<Option<bool>>,
-}
-
-impl Model for ExprCache {
-    ghost use Rattle.std.specs.Prelude.{Bool, List, Option};
-
-    ghost Value = { List (Option Bool) };
-
-    ghost view = { λ a. a.known.items };
+    independent: KnownAnswers,
+    elementwise: KnownAnswers,
 }
 
 impl ExprCache {
@@ -31,52 +25,20 @@ impl ExprCache {
     ///
     /// Fails only for want of memory.
     pub fn with_capacity(alloc: Global, capacity: usize) -> PolarsResult<ExprCache>
-        ensures empty { IfOk result (λ cache. cache ≡ []) }
+        ensures independent { IfOk result (λ cache. cache.independent ≡ []) }
+        ensures elementwise { IfOk result (λ cache. cache.elementwise ≡ []) }
         ensures memory { OnErr result (result ≡ Err PolarsError.OutOfMemory) }
     {
         Ok(ExprCache {
-            known: Vec::with_capacity(alloc, capacity)?,
+            independent: KnownAnswers::with_capacity(alloc, capacity)?,
+            elementwise: KnownAnswers::with_capacity(alloc, capacity)?,
         })
-    }
-
-    /// What is known of an expression, if anything.
-    fn get(&self, expr: Node) -> Option<bool>
-        ensures { result ≡ known_at self.now expr.0 }
-    {
-        match self.known.get(expr.0) {
-            Some(known) => *known,
-            None => None,
-        }
-    }
-
-    /// Makes room to note something of an expression.
-    fn reach(&mut self, expr: Node) -> PolarsResult<()>
-        ensures there { OnOk result (expr.0 < length self.new) }
-        ensures same { (n : ℕ) → known_at self.new n ≡ known_at self.old n }
-        ensures memory { OnErr result (result ≡ Err PolarsError.OutOfMemory) }
-    {
-        while self.known.len() <= expr.0 {
-            self.known.push(None)?;
-        }
-        Ok(())
-    }
-
-    /// Notes the answer for an expression.
-    fn note(&mut self, expr: Node, is: bool) -> PolarsResult<()>
-        ensures noted { OnOk result ((n : ℕ) → known_at self.new n ≡ (if n == expr.0 then Some is else known_at self.old n)) }
-        ensures same { OnErr result ((n : ℕ) → known_at self.new n ≡ known_at self.old n) }
-        ensures memory { OnErr result (result ≡ Err PolarsError.OutOfMemory) }
-    {
-        self.reach(expr)?;
-        self.known[expr.0] = Some(is);
-        Ok(())
     }
 }
 
 /// Whether an expression reads no input: no column, and no height. Each expression below it is looked at once, in all calls together.
 ///
 /// Fails only for want of memory; what is then known is still right.
-#[cycle(input_independent)]
 pub fn is_input_independent(
     alloc: Global,
     expr: Node,
@@ -89,17 +51,14 @@ pub fn is_input_independent(
     ensures cache { Remembers arena.now.items cache.new }
     ensures memory { OnErr result (result ≡ Err PolarsError.OutOfMemory) }
 {
-    if let Some(is) = cache.get(expr) {
-        return Ok(is);
-    }
-    let is = is_entry_independent(alloc, expr, arena, cache)?;
-    cache.note(expr, is)?;
-    Ok(is)
+    is_independent_expr(alloc, expr, arena, &mut cache.independent)
 }
 
-// The same by its operands, whatever is known of it.
-#[cycle(input_independent)]
-fn is_entry_independent(
+/// Whether each cell of an expression's answer comes from the cells of its row. Each expression below it is looked at
+/// once, in all calls together.
+///
+/// Fails only for want of memory; what is then known is still right.
+pub fn is_elementwise(
     alloc: Global,
     expr: Node,
     arena: &Arena<AExpr>,
@@ -107,137 +66,9 @@ fn is_entry_independent(
 ) -> PolarsResult<bool>
     requires expr { IsExpression arena.now.items expr }
     requires cache { Remembers arena.now.items cache.old }
-    ensures is { IfOk result (λ is. is ≡ is_independent (tree_at arena.now.items expr)) }
+    ensures is { IfOk result (λ is. is ≡ is_elementwise_tree (tree_at arena.now.items expr)) }
     ensures cache { Remembers arena.now.items cache.new }
     ensures memory { OnErr result (result ≡ Err PolarsError.OutOfMemory) }
 {
-    match entry(expr, arena) {
-        AExpr::Column(_) | AExpr::Len => Ok(false),
-        AExpr::Literal(_) | AExpr::LeftOut(_) => Ok(true),
-        AExpr::BinaryExpr { left, op: _, right } => {
-            are_both_independent(alloc, *left, *right, arena, cache)
-        }
-        AExpr::Cast { expr, .. } | AExpr::Sort { expr, .. } => {
-            is_input_independent(alloc, *expr, arena, cache)
-        }
-        AExpr::SortBy { expr, by, .. } => {
-            is_with_all_independent(alloc, *expr, by.as_slice(), arena, cache)
-        }
-        AExpr::Gather { expr, idx, .. } => are_both_independent(alloc, *expr, *idx, arena, cache),
-        AExpr::Filter { input, by } => are_both_independent(alloc, *input, *by, arena, cache),
-        AExpr::Agg(aggregate) => is_input_independent(alloc, operand(aggregate), arena, cache),
-        AExpr::Ternary {
-            predicate,
-            truthy,
-            falsy,
-        } => are_three_independent(alloc, *predicate, *truthy, *falsy, arena, cache),
-        AExpr::Function { input, .. } => is_input_independent(alloc, *input, arena, cache),
-        AExpr::Slice {
-            input,
-            offset,
-            length,
-        } => are_three_independent(alloc, *input, *offset, *length, arena, cache),
-    }
-}
-
-// The expression over which an aggregate goes.
-fn operand(aggregate: &IRAggExpr) -> Node
-    ensures { result ≡ aggregate_operand aggregate.now }
-{
-    match aggregate {
-        IRAggExpr::Min(input)
-        | IRAggExpr::Max(input)
-        | IRAggExpr::First(input)
-        | IRAggExpr::Last(input)
-        | IRAggExpr::Sum(input)
-        | IRAggExpr::NUnique(input)
-        | IRAggExpr::Count(input, _) => *input,
-    }
-}
-
-// Whether neither of two expressions reads an input.
-#[cycle(input_independent)]
-fn are_both_independent(
-    alloc: Global,
-    first: Node,
-    second: Node,
-    arena: &Arena<AExpr>,
-    cache: &mut ExprCache,
-) -> PolarsResult<bool>
-    requires first { IsExpression arena.now.items first }
-    requires second { IsExpression arena.now.items second }
-    requires cache { Remembers arena.now.items cache.old }
-    ensures are { IfOk result (λ are. are ≡ (is_independent (tree_at arena.now.items first) && is_independent (tree_at arena.now.items second))) }
-    ensures cache { Remembers arena.now.items cache.new }
-    ensures memory { OnErr result (result ≡ Err PolarsError.OutOfMemory) }
-{
-    let first = is_input_independent(alloc, first, arena, cache)?;
-    let second = is_input_independent(alloc, second, arena, cache)?;
-    Ok(first && second)
-}
-
-// Whether none of three does.
-#[cycle(input_independent)]
-fn are_three_independent(
-    alloc: Global,
-    first: Node,
-    second: Node,
-    third: Node,
-    arena: &Arena<AExpr>,
-    cache: &mut ExprCache,
-) -> PolarsResult<bool>
-    requires first { IsExpression arena.now.items first }
-    requires second { IsExpression arena.now.items second }
-    requires third { IsExpression arena.now.items third }
-    requires cache { Remembers arena.now.items cache.old }
-    ensures are { IfOk result (λ are. are ≡ (is_independent (tree_at arena.now.items first) && (is_independent (tree_at arena.now.items second) && is_independent (tree_at arena.now.items third)))) }
-    ensures cache { Remembers arena.now.items cache.new }
-    ensures memory { OnErr result (result ≡ Err PolarsError.OutOfMemory) }
-{
-    let first = is_input_independent(alloc, first, arena, cache)?;
-    let others = are_both_independent(alloc, second, third, arena, cache)?;
-    Ok(first && others)
-}
-
-// Whether neither an expression nor any of others does.
-#[cycle(input_independent)]
-fn is_with_all_independent(
-    alloc: Global,
-    first: Node,
-    others: &[Node],
-    arena: &Arena<AExpr>,
-    cache: &mut ExprCache,
-) -> PolarsResult<bool>
-    requires first { IsExpression arena.now.items first }
-    requires others { AreComplete (trees_of (tree_at arena.now.items) others.now) }
-    requires cache { Remembers arena.now.items cache.old }
-    ensures are { IfOk result (λ are. are ≡ (is_independent (tree_at arena.now.items first) && every_part_of_all reads_no_input (trees_of (tree_at arena.now.items) others.now))) }
-    ensures cache { Remembers arena.now.items cache.new }
-    ensures memory { OnErr result (result ≡ Err PolarsError.OutOfMemory) }
-{
-    let first = is_input_independent(alloc, first, arena, cache)?;
-    let others = are_all_independent(alloc, others, arena, cache)?;
-    Ok(first && others)
-}
-
-// Whether none of some expressions does.
-#[cycle(input_independent)]
-fn are_all_independent(
-    alloc: Global,
-    exprs: &[Node],
-    arena: &Arena<AExpr>,
-    cache: &mut ExprCache,
-) -> PolarsResult<bool>
-    requires exprs { AreComplete (trees_of (tree_at arena.now.items) exprs.now) }
-    requires cache { Remembers arena.now.items cache.old }
-    ensures are { IfOk result (λ are. are ≡ every_part_of_all reads_no_input (trees_of (tree_at arena.now.items) exprs.now)) }
-    ensures cache { Remembers arena.now.items cache.new }
-    ensures memory { OnErr result (result ≡ Err PolarsError.OutOfMemory) }
-{
-    for expr in exprs {
-        if !is_input_independent(alloc, *expr, arena, cache)? {
-            return Ok(false);
-        }
-    }
-    Ok(true)
+    is_elementwise_expr(alloc, expr, arena, &mut cache.elementwise)
 }

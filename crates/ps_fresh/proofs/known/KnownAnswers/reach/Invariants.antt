@@ -1,6 +1,6 @@
 use Rattle.std.proofs.Common.{◌≡◌, ◌+◌, ◌-◌, ℕ, length}
 use Rattle.ps_fresh.specs.Known.{known_at}
-use Rattle.ps_fresh.proofs.expr_cache.ExprCache.reach.Given as goal
+use Rattle.ps_fresh.proofs.known.KnownAnswers.reach.Given as goal
 
 abbrev pub invariant-loop-expr : goal.invariant-loop-expr
 invariant-loop-expr l = (n : ℕ) → known_at l.self-inside.known.items n ≡ known_at l.initial.self-inside.known.items n

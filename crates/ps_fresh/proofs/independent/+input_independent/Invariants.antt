@@ -1,11 +1,11 @@
 use Rattle.std.proofs.Common.{◌≡◌, ◌+◌, ◌*◌, ◌≤◌, drop}
 use Rattle.ps_frame.specs.Trees.{AreComplete, tree_at, tree_size, trees_of, trees_size}
-use Rattle.ps_frame.specs.Typing.{every_part_of_all, reads_no_input}
-use Rattle.ps_fresh.specs.Known.{Remembers}
-use Rattle.ps_fresh.proofs.expr_cache.+input_independent.Given as goal
+use Rattle.ps_frame.specs.Typing.{every_part_of_all, is_independent, reads_no_input}
+use Rattle.ps_fresh.specs.Known.{RemembersBy}
+use Rattle.ps_fresh.proofs.independent.+input_independent.Given as goal
 
-abbrev pub decreases-is_input_independent : goal.decreases-is_input_independent
-decreases-is_input_independent l = 4 * tree_size (tree_at l.arena.now.items l.expr) + 1
+abbrev pub decreases-is_independent_expr : goal.decreases-is_independent_expr
+decreases-is_independent_expr l = 4 * tree_size (tree_at l.arena.now.items l.expr) + 1
 
 abbrev pub decreases-is_entry_independent : goal.decreases-is_entry_independent
 decreases-is_entry_independent l = 4 * tree_size (tree_at l.arena.now.items l.expr)
@@ -29,5 +29,5 @@ invariant-are_all_independent-loop-expr l =
       complete : AreComplete (trees_of (tree_at l.arena.items) (drop l.expr-index l.exprs));
       left : every_part_of_all reads_no_input (trees_of (tree_at l.arena.items) l.exprs) ≡ every_part_of_all reads_no_input (trees_of (tree_at l.arena.items) (drop l.expr-index l.exprs));
       small : trees_size (trees_of (tree_at l.arena.items) (drop l.expr-index l.exprs)) ≤ trees_size (trees_of (tree_at l.arena.items) l.exprs);
-      cache : Remembers l.arena.items l.cache;
+      cache : RemembersBy is_independent l.arena.items l.cache;
     }
