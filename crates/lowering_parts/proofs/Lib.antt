@@ -1,0 +1,12 @@
+pub mod Grown
+pub mod Sizes
+pub mod StreamLemmas
+pub mod NameLemmas
+pub mod ColumnLemmas
+pub mod SchemaLemmas
+pub mod NodeLemmas
+pub mod ReadLemmas
+pub mod LaterLemmas
+pub mod Going
+pub mod LeafLemmas
+pub mod BundleLemmas

@@ -1,0 +1,4 @@
+pub mod Gathered
+pub mod Operations
+pub mod Places
+pub mod Reads
