@@ -1,0 +1,10 @@
+pub mod Following
+pub mod Ruled
+pub mod Arms
+pub mod Reductions
+pub mod Selections
+pub mod Rooms
+pub mod CallLemmas
+pub mod Least
+pub mod Steps
+pub mod Ends
