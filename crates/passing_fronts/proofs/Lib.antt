@@ -1,0 +1,2 @@
+pub mod PassingKinds
+pub mod PassingLaw
