@@ -1,0 +1,5 @@
+pub mod Ports
+pub mod OnePort
+pub mod UnionPorts
+pub mod StreamPorts
+pub mod Finishing

@@ -1,0 +1,24 @@
+// How runs of graphs of streaming nodes end, as theorems of functions that do nothing.
+ghost use Rattle.std.specs.Prelude.{◌≡◌, Some, slice_get, ℕ};
+ghost use Rattle.ps_frame.specs.Functions.{Functions};
+ghost use Rattle.ps_meaning.specs.Shape.{PhysicalNode, Shape};
+ghost use Rattle.ps_meaning.specs.Sound.{IsSound};
+ghost use Rattle.ps_options.specs.declared.options.Options.{Options};
+ghost use Rattle.ps_world.specs.Laws.{AllDone, PortLaw};
+ghost use Rattle.ps_world.specs.Opening.{Reaches};
+ghost use Rattle.ps_world.specs.Promises.{HoldsMeaning};
+ghost use Rattle.ps_world.specs.Updates.{IsSettled};
+ghost use Rattle.ps_world.specs.World.{World, finished, shape_of};
+ghost use Rattle.world_claims.specs.Numbering.{Known};
+ghost use Rattle.family_keeps.specs.Kinds.{IsStreaming};
+
+/// In a settled world between phases a streaming node that takes is ready to a live input and blocked to its outputs; a live input of another one leads on to a live output; and where all its live inputs are sent ready, so is its live output: the third part of its law.
+pub fn streaming_nodes_lead_on()
+    ensures { (F : Functions) (s : World) (n : ℕ) (p : PhysicalNode) → Known F s → slice_get (shape_of s) n ≡ Some p → IsStreaming p.kind → IsSettled s → PortLaw s n }
+{}
+
+/// Where all nodes of a sound shape stream, a finished run has every pipe done on both ends, and the rows in its sink are those of a whole table that the sink means.
+pub fn streaming_runs_end_whole()
+    ensures done { (F : Functions) (shape : Shape) (o : Options) (w : World) → IsSound F shape → ((n : ℕ) (p : PhysicalNode) → slice_get shape n ≡ Some p → IsStreaming p.kind) → Reaches F shape o w → w.ending ≡ finished → AllDone w }
+    ensures meaning { (F : Functions) (shape : Shape) (o : Options) (w : World) → IsSound F shape → ((n : ℕ) (p : PhysicalNode) → slice_get shape n ≡ Some p → IsStreaming p.kind) → Reaches F shape o w → w.ending ≡ finished → HoldsMeaning F shape w }
+{}
