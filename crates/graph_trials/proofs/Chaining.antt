@@ -1,9 +1,10 @@
 -- Chains grow by a node, and one from a source over filters to a sink may run.
-use Rattle.std.proofs.Common.{◌≡◌, ℕ, zero, suc, ◌+◌, ◌<◌, ◌≤◌, ◌⊎◌, Bool, true, false, cond, List, [], ◌∷◌, ◌++◌, length, replicate, Option, Some, None, refl, sym, ap, subst, ◌∙◌, inl, inr, arith}
-use Rattle.std.specs.Prelude.{All, ◌&&◌, count_by, map, nat_eq, nat_lt, slice_get}
+use Rattle.std.proofs.Common.{◌≡◌, ℕ, zero, suc, ◌+◌, ◌<◌, ◌≤◌, ◌⊎◌, Bool, true, false, cond, List, [], ◌∷◌, ◌++◌, length, get_or, take, Some, None, refl, sym, ap, subst, ◌∙◌, inl, inr, arith}
+use Rattle.std.specs.Prelude.{All, IsTrue, ◌&&◌, count_by, map, nat_eq, nat_lt, slice_get}
 use Rattle.std.proofs.lemmas.Bool.Decides.{nat_tests}
-use Rattle.std.proofs.lemmas.List.{length-append}
+use Rattle.std.proofs.lemmas.List.{length-append, take_all, take_more}
 use Rattle.std.proofs.lemmas.List.Sums.{sum_by_push}
+use Rattle.std.specs.List.{list_all}
 use Rattle.ps_ports.specs.declared.port_state.PortState.TheVariants as port
 use Rattle.ps_ports.specs.Examples.{a_wire}
 use Rattle.ps_ports.specs.Wires.{Wire}
@@ -13,13 +14,14 @@ use Rattle.ps_graph.specs.declared.graph.GraphNode.{GraphNode}
 use Rattle.ps_graph.specs.declared.key.GraphNodeKey.{GraphNodeKey}
 use Rattle.ps_graph.specs.Complete.{IsComplete, inputs_of, readers_of, readers_of_port}
 use Rattle.ps_graph.specs.Shown.{IsLinked, nodes_of, standing_of, values, wire_of, wires_of}
+use Rattle.ps_graph.proofs.Feeding.{and_both}
 use Rattle.ps_graph.proofs.Growing.{map-append}
 use Rattle.ps_graph.proofs.Places.{length_there}
 use Rattle.graph_trials.specs.declared.kind.Kind.{Kind}
 use Rattle.graph_trials.specs.declared.kind.Kind.TheVariants as kind
 use Rattle.graph_trials.specs.declared.node.TrialNode.{TrialNode}
 use Rattle.graph_trials.specs.Chains.{IsChain, kinds_of, line, link}
-use Rattle.graph_trials.specs.Trying.{FitsKind}
+use Rattle.graph_trials.specs.Trying.{FitsKind, is_link}
 use Rattle.graph_trials.specs.Trying.{inputs_of as kind_inputs, outputs_of as kind_outputs}
 
 more_length : {A : Type 0} (xs ys : List A) (x : A) → ys ≡ xs ++ x ∷ [] → length ys ≡ suc (length xs)
@@ -117,20 +119,35 @@ apart k = grind (arith, nat_tests)
 first-line : (m : ℕ) → inputs_of 0 (line m) ≡ 0
 first-line m = count_none (λ p. nat_eq p.receiver 0) apart m
 
-replicate_more : {A : Type 0} (k : ℕ) (x : A) → replicate k x ++ x ∷ [] ≡ replicate (suc k) x
-replicate_more zero x = refl
-replicate_more (suc k) x = ap (λ l. x ∷ l) (replicate_more k x)
+-- one of the links more
+pub links_more : (first : Kind) (links : List Kind) (n : ℕ) (d : Kind) → n < length links → (first ∷ take n links) ++ get_or links n d ∷ [] ≡ first ∷ take (n + 1) links
+links_more first links n d h = ap (λ l. first ∷ l) (sym (take_more links n d h))
 
--- a filter more
-pub filters_more : (first : Kind) (k : ℕ) → (first ∷ replicate k kind.Filter) ++ kind.Filter ∷ [] ≡ first ∷ replicate (k + 1) kind.Filter
-filters_more first k = let e : suc k ≡ k + 1 = omega arith in ap (λ l. first ∷ l) (replicate_more k kind.Filter) ∙ ap (λ n. first ∷ replicate n kind.Filter) e
+-- all of the links
+pub links_all : (first : Kind) (links : List Kind) (n : ℕ) → length links ≤ n → first ∷ take n links ≡ first ∷ links
+links_all first links n h = ap (λ l. first ∷ l) (take_all n links h)
+
+-- a link has one input and one reader
+link_ports : (k : Kind) → is_link k ≡ true → (kind_inputs k ≡ 1) × (kind_outputs k ≡ 1)
+link_ports (kind.Source spent) e = absurd (let clash : false ≡ true = e in cc)
+link_ports kind.Filter e = (refl, refl)
+link_ports (kind.Map over) e = (refl, refl)
+link_ports kind.Union e = (refl, refl)
+link_ports kind.Taker e = (refl, refl)
+link_ports kind.Sink e = absurd (let clash : false ≡ true = e in cc)
 
 -- what stands behind the source
-behind : (f n : ℕ) (k : Kind) → slice_get (replicate f kind.Filter ++ kind.Sink ∷ []) n ≡ Some k → ((n < f) × (kind.Filter ≡ k)) ⊎ ((n ≡ f) × (kind.Sink ≡ k))
-behind zero zero k e = inr (refl, (let both : Some kind.Sink ≡ Some k = e in cc))
-behind zero (suc n) k e = absurd (let clash : None ≡ Some k = e in cc)
-behind (suc f) zero k e = inl (omega arith, (let both : Some kind.Filter ≡ Some k = e in cc))
-behind (suc f) (suc n) k e = elim (behind f n k e) [ inl (lower, is) ↦ inl (omega (arith, lower), is) | inr (same, is) ↦ inr (ap suc same, is) ]
+behind : (links : List Kind) (n : ℕ) (k : Kind) → list_all is_link links ≡ true → slice_get (links ++ kind.Sink ∷ []) n ≡ Some k → ((n < length links) × (is_link k ≡ true)) ⊎ ((n ≡ length links) × (kind.Sink ≡ k))
+behind [] zero k all e = inr (refl, (let both : Some kind.Sink ≡ Some k = e in cc))
+behind [] (suc n) k all e = absurd (let clash : None ≡ Some k = e in cc)
+behind (l ∷ ls) zero k all e =
+    let is : l ≡ k = (let both : Some l ≡ Some k = e in cc) in
+    inl (omega arith, ap is_link (sym is) ∙ (and_both (is_link l) (list_all is_link ls) all).0)
+behind (l ∷ ls) (suc n) k all e =
+    elim (behind ls n k ((and_both (is_link l) (list_all is_link ls) all).1) e) [
+      | inl (lower, is) ↦ inl (omega (arith, lower), is)
+      | inr (same, is) ↦ inr (ap suc same, is)
+    ]
 
 one_of : (n m : ℕ) → n < m → cond {A = ℕ} (nat_lt n m) 1 0 ≡ 1
 one_of n m h = let yes : nat_lt n m ≡ true = grind (arith, nat_tests) in ap (λ b. cond {A = ℕ} b 1 0) yes
@@ -138,36 +155,40 @@ one_of n m h = let yes : nat_lt n m ≡ true = grind (arith, nat_tests) in ap (�
 none_of : (n m : ℕ) → m ≤ n → cond {A = ℕ} (nat_lt n m) 1 0 ≡ 0
 none_of n m h = let past : nat_lt n m ≡ false = grind (arith, nat_tests) in ap (λ b. cond {A = ℕ} b 1 0) past
 
--- a chain from a source over filters to a sink lacks nothing
-pub chain_complete : (g : Graph TrialNode) (spent : Bool) (f : ℕ) → IsChain g → kinds_of g ≡ kind.Source spent ∷ replicate f kind.Filter ++ kind.Sink ∷ [] → length g.pipes.slots ≡ f + 1 → IsComplete FitsKind (standing_of g)
-chain_complete g spent f chain kinds long =
+-- a chain from a source over links to a sink lacks nothing
+pub chain_complete : (g : Graph TrialNode) (spent : Bool) (links : List Kind) → IsTrue (list_all is_link links) → IsChain g → kinds_of g ≡ (kind.Source spent ∷ links) ++ kind.Sink ∷ [] → length g.pipes.slots ≡ length links + 1
+    → IsComplete FitsKind (standing_of g)
+chain_complete g spent links all chain kinds long =
     record {
       one_reader = λ n port h. subst (λ ws. readers_of_port n port ws ≡ 1) (sym wires) (at n port (subst (λ ws. port < readers_of n ws) wires h));
       ports = λ n node at.
-          let here : slice_get (kind.Source spent ∷ replicate f kind.Filter ++ kind.Sink ∷ []) n ≡ Some node.kind = ap (λ l. slice_get l n) (sym kinds) ∙ map_at (λ (x : TrialNode). x.kind) (nodes_of g.nodes.slots) n node at in
+          let here : slice_get (kind.Source spent ∷ links ++ kind.Sink ∷ []) n ≡ Some node.kind = ap (λ l. slice_get l n) (sym kinds) ∙ map_at (λ (x : TrialNode). x.kind) (nodes_of g.nodes.slots) n node at in
           subst (λ ws. FitsKind node (inputs_of n ws) (readers_of n ws)) (sym wires) (fits n node.kind here);
     }
   where
-    wires : wires_of g.pipes.slots ≡ line (f + 1)
+    wires : wires_of g.pipes.slots ≡ line (length links + 1)
     wires = chain.wires ∙ ap line long
 
-    at : (n port : ℕ) → port < readers_of n (line (f + 1)) → readers_of_port n port (line (f + 1)) ≡ 1
-    at n port h = by (nat_lt n (f + 1)) refl
+    at : (n port : ℕ) → port < readers_of n (line (length links + 1)) → readers_of_port n port (line (length links + 1)) ≡ 1
+    at n port h = by (nat_lt n (length links + 1)) refl
       where
-        by : (b : Bool) → nat_lt n (f + 1) ≡ b → readers_of_port n port (line (f + 1)) ≡ 1
+        by : (b : Bool) → nat_lt n (length links + 1) ≡ b → readers_of_port n port (line (length links + 1)) ≡ 1
         by true e =
-            let one : readers_of n (line (f + 1)) ≡ 1 = readers-line n (f + 1) ∙ ap (λ b. cond b 1 0) e in
+            let one : readers_of n (line (length links + 1)) ≡ 1 = readers-line n (length links + 1) ∙ ap (λ b. cond b 1 0) e in
             let first : port ≡ 0 = omega (arith, h, one) in
-            ap (λ p. readers_of_port n p (line (f + 1))) first ∙ ports-line n (f + 1) ∙ ap (λ b. cond b 1 0) e
-        by false e = let none : readers_of n (line (f + 1)) ≡ 0 = readers-line n (f + 1) ∙ ap (λ b. cond b 1 0) e in absurd (omega (arith, h, none))
+            ap (λ p. readers_of_port n p (line (length links + 1))) first ∙ ports-line n (length links + 1) ∙ ap (λ b. cond b 1 0) e
+        by false e = let none : readers_of n (line (length links + 1)) ≡ 0 = readers-line n (length links + 1) ∙ ap (λ b. cond b 1 0) e in absurd (omega (arith, h, none))
 
-    fits : (n : ℕ) (k : Kind) → slice_get (kind.Source spent ∷ replicate f kind.Filter ++ kind.Sink ∷ []) n ≡ Some k → (inputs_of n (line (f + 1)) ≡ kind_inputs k) × (readers_of n (line (f + 1)) ≡ kind_outputs k)
+    fits : (n : ℕ) (k : Kind) → slice_get (kind.Source spent ∷ links ++ kind.Sink ∷ []) n ≡ Some k → (inputs_of n (line (length links + 1)) ≡ kind_inputs k) × (readers_of n (line (length links + 1)) ≡ kind_outputs k)
     fits zero k e =
         let is : kind.Source spent ≡ k = (let both : Some (kind.Source spent) ≡ Some k = e in cc) in
-        (first-line (f + 1) ∙ ap kind_inputs is, readers-line 0 (f + 1) ∙ one_of 0 (f + 1) (omega arith) ∙ ap kind_outputs is)
-    fits (suc n) k e = elim (behind f n k e) [
-      | inl (lower, is) ↦ (inputs-line n (f + 1) ∙ one_of n (f + 1) (omega (arith, lower)) ∙ ap kind_inputs is, readers-line (suc n) (f + 1) ∙ one_of (suc n) (f + 1) (omega (arith, lower)) ∙ ap kind_outputs is)
-      | inr (same, is) ↦ (inputs-line n (f + 1) ∙ one_of n (f + 1) (omega (arith, same)) ∙ ap kind_inputs is, readers-line (suc n) (f + 1) ∙ none_of (suc n) (f + 1) (omega (arith, same)) ∙ ap kind_outputs is)
+        (first-line (length links + 1) ∙ ap kind_inputs is, readers-line 0 (length links + 1) ∙ one_of 0 (length links + 1) (omega arith) ∙ ap kind_outputs is)
+    fits (suc n) k e = elim (behind links n k all e) [
+      | inl (lower, is) ↦
+          let ports = link_ports k is in
+          (inputs-line n (length links + 1) ∙ one_of n (length links + 1) (omega (arith, lower)) ∙ sym ports.0, readers-line (suc n) (length links + 1) ∙ one_of (suc n) (length links + 1) (omega (arith, lower)) ∙ sym ports.1)
+      | inr (same, is) ↦
+          (inputs-line n (length links + 1) ∙ one_of n (length links + 1) (omega (arith, same)) ∙ ap kind_inputs is, readers-line (suc n) (length links + 1) ∙ none_of (suc n) (length links + 1) (omega (arith, same)) ∙ ap kind_outputs is)
     ]
 
 -- the sender of the only input is among so many nodes

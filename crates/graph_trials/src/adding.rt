@@ -1,5 +1,5 @@
 // Graphs as they are put together: which pipes lead where.
-ghost use Rattle.std.specs.Prelude.{◌≡◌, ◌<◌, All, IfOk, IsTrue, OnOk};
+ghost use Rattle.std.specs.Prelude.{◌<◌, All, IfOk, IsTrue, OnOk};
 ghost use Rattle.ps_graph.specs.Shown.{IsLinked};
 
 use keyed_slots::Key;

@@ -1,8 +1,8 @@
 //! Nodes that answer by their kind alone, and count their updates.
-ghost use Rattle.std.specs.Prelude.{◌≡◌, ◌<◌, ℕ, length};
-ghost use Rattle.ps_ports.specs.Ports.{kept_state};
+ghost use Rattle.std.specs.Prelude.{◌≡◌, ◌<◌, None, codes};
+ghost use Rattle.ps_ports.specs.Ports.{is_done, kept_state};
 ghost use Rattle.graph_trials.specs.Laws.{trial_laws, trial_ports};
-ghost use Rattle.graph_trials.specs.Trying.{FitsKind, Tried, is_taker};
+ghost use Rattle.graph_trials.specs.Trying.{FitsKind, Tried, is_taker, stages_of};
 
 use crate::kind::Kind;
 use ps_frame::frame::DataFrame;
@@ -37,16 +37,31 @@ fn kept(old: PortState, new: PortState) -> PortState
     }
 }
 
+/// Whether the state is done.
+fn is_done(state: PortState) -> bool
+    ensures { result ≡ is_done state }
+{
+    matches!(state, PortState::Done)
+}
+
 impl ComputeNode for TrialNode {
     ghost HasPorts = { FitsKind };
 
-    ghost stages = { λ n. 0 };
+    ghost stages = { λ n. stages_of n.kind };
 
     ghost Update = { λ a given b answer. Tried a.kind given b.kind answer };
 
     ghost Faults = { λ a given e. ⊥ };
 
     ghost intensive = { λ n. is_taker n.kind };
+
+    ghost word = { λ n. codes "trial" };
+
+    ghost Initializes = { λ a pieces b. b ≡ a };
+
+    ghost answer = { λ n. None };
+
+    ghost emptied = { λ n. n };
 
     fn name(&self) -> &str {
         "trial"
@@ -55,7 +70,10 @@ impl ComputeNode for TrialNode {
     fn initialize(&mut self, _num_pipelines: usize) {}
 
     fn stages_behind(&self) -> usize {
-        0
+        match self.kind {
+            Kind::Map(true) => 1,
+            _ => 0,
+        }
     }
 
     fn update_state(
@@ -74,11 +92,22 @@ impl ComputeNode for TrialNode {
                 };
                 send[0] = kept(send[0], own);
             }
-            Kind::Filter => {
+            Kind::Filter | Kind::Union => {
                 let sender = recv[0];
                 let reader = send[0];
                 recv[0] = kept(sender, reader);
                 send[0] = kept(reader, sender);
+            }
+            Kind::Map(over) => {
+                let over = over || is_done(recv[0]) || is_done(send[0]);
+                self.kind = Kind::Map(over);
+                let (input, output) = if over {
+                    (PortState::Done, PortState::Done)
+                } else {
+                    (PortState::Ready, PortState::Blocked)
+                };
+                recv[0] = kept(recv[0], input);
+                send[0] = kept(send[0], output);
             }
             Kind::Taker => {
                 recv[0] = kept(recv[0], PortState::Ready);
@@ -90,7 +119,7 @@ impl ComputeNode for TrialNode {
     }
 
     fn is_memory_intensive_pipeline_blocker(&self) -> bool {
-        matches!(self.kind, Kind::Taker)
+        matches!(self.kind, Kind::Taker | Kind::Map(false))
     }
 
     fn get_output(&mut self, _alloc: Global) -> PolarsResult<Option<DataFrame>> {

@@ -1,5 +1,6 @@
 //! What a graph asks of its nodes.
-ghost use Rattle.std.specs.Prelude.{◌≡◌, ℕ, ◌⊎◌, Bool, length, IfErr, OnOk};
+ghost use Rattle.std.specs.Prelude.{◌≡◌, ℕ, ◌⊎◌, Bool, Err, IfErr, IfOk, List, OnErr, OnOk, Option, length, option_map};
+ghost use Rattle.ps_frame.specs.Tables.{Frame, Row};
 ghost use Rattle.ps_frame.specs.declared.refusal.PolarsError.{PolarsError};
 ghost use Rattle.ps_ports.specs.Ports.{Sides};
 ghost use Rattle.ps_ports.specs.UpdateLaws.{KeepsUpdateLaws};
@@ -27,10 +28,24 @@ pub trait ComputeNode: Send + Drop {
     ghost intensive: { Self → Bool };
 
     /// The word for nodes of its kind.
-    fn name(&self) -> &str;
+    ghost word: { Self → List ℕ };
+
+    /// What a node becomes that is told how many pieces of work may go on beside each other.
+    ghost Initializes: { Self → (pieces : ℕ) → Self → Type 0 };
+
+    /// The rows that it keeps as the answer of its graph, if it is a node that does.
+    ghost answer: { Self → Option (List Row) };
+
+    /// The node once these were given.
+    ghost emptied: { Self → Self };
+
+    /// The word for nodes of its kind.
+    fn name(&self) -> &str
+        ensures { result.now ≡ word self.now };
 
     /// Tells the node how many pieces of work may go on beside each other.
-    fn initialize(&mut self, num_pipelines: usize);
+    fn initialize(&mut self, num_pipelines: usize)
+        ensures { Initializes self.old num_pipelines self.new };
 
     /// How many of its stages the node has behind it: at most two.
     fn stages_behind(&self) -> usize
@@ -54,8 +69,14 @@ pub trait ComputeNode: Send + Drop {
     fn is_memory_intensive_pipeline_blocker(&self) -> bool
         ensures { result ≡ intensive self.now };
 
-    /// The rows that the node keeps as the answer of its graph, if it is one that does.
-    fn get_output(&mut self, alloc: Global) -> PolarsResult<Option<DataFrame>>;
+    /// Gives the rows that the node keeps as the answer of its graph, if it is one that does. It then keeps none, also
+    /// where the table can't be made.
+    ///
+    /// Fails only for want of memory.
+    fn get_output(&mut self, alloc: Global) -> PolarsResult<Option<DataFrame>>
+        ensures rows { IfOk result (λ table. option_map (λ (f : Frame). f.rows) table ≡ answer self.old) }
+        ensures memory { OnErr result (result ≡ Err PolarsError.OutOfMemory) }
+        ensures given { self.new ≡ emptied self.old };
 
     /// Updates keep the laws by which a graph comes to rest.
     ghost laws: { KeepsUpdateLaws stages Update };

@@ -1,3 +1,4 @@
 mod Turning
 mod Updated
 mod Stores
+mod MapTurn

@@ -1,8 +1,17 @@
 -- The expressions of nodes.
+use Rattle.std.specs.Prelude.{List}
 use Rattle.ps_frame.specs.Trees.{tree_at}
+use Rattle.ps_frame.specs.declared.expr.AExpr.{AExpr}
 use Rattle.ps_meaning.specs.Steps.{Named, name_in}
-use Rattle.ps_nodes.specs.declared.stream_expr.StreamExpr.{StreamExpr}
+use Rattle.ps_meaning.specs.declared.options.OutputName.{OutputName}
+use Rattle.pu_base.specs.declared.arena.Node.{Node}
+
+-- an expression's number in an arena of its own, and the name of its column
+pub record ExprParts : Type 0 where
+  pub exprs : List AExpr
+  pub root : Node
+  pub name : OutputName
 
 -- the name of its column, and its tree
-abbrev pub expr_shown : StreamExpr → Named
-expr_shown e = (name_in e.name, tree_at e.exprs.items e.root)
+abbrev pub expr_shown : ExprParts → Named
+expr_shown e = (name_in e.name, tree_at e.exprs e.root)

@@ -1,28 +1,35 @@
 -- What updates see of the nodes of a graph, and what they make of them.
-use Rattle.std.specs.Prelude.{◌≡◌, ℕ, ◌-◌, ◌^◌, ◌≤◌, Bool, false, List, [], ◌∷◌, Option, Some, None, length, map, replicate}
+use Rattle.std.specs.Prelude.{◌≡◌, ℕ, zero, suc, ◌⊎◌, ◌≤◌, Bool, not, ◌&&◌, List, [], ◌∷◌, IsTrue, Option, None, Some, drop, length, map, replicate}
 use Rattle.std.proofs.Common.{lit≤}
 use Rattle.std.specs.declared.alloc.Global.{Global}
 use Rattle.std.specs.declared.vec.Vec.{Vec}
+use Rattle.kept_tables.specs.Kept.{rows_of_each}
+use Rattle.made_tables.specs.Made.{BreaksRows, bare_node}
+use Rattle.made_tables.specs.Uncalled.{no_functions}
 use Rattle.node_states.specs.Stages.{stage_of}
 use Rattle.node_states.specs.Views.{NodeView}
 use Rattle.ps_frame.specs.Causes.{Cause}
-use Rattle.ps_frame.specs.Functions.{Functions}
-use Rattle.ps_frame.specs.Tables.{Row}
+use Rattle.ps_frame.specs.Tables.{Fields, Row}
 use Rattle.ps_frame.specs.declared.refusal.PolarsError.{PolarsError}
 use Rattle.ps_meaning.specs.Errors.{cause_error}
 use Rattle.ps_meaning.specs.Schemas.{names_of}
-use Rattle.ps_meaning.specs.Shape.{PhysicalKind, equi_join, filter_node, in_memory_sink, in_memory_source, independent_select, multiplexer, ordered_union, reduce, select_node, simple_projection, stream_map, streaming_slice, with_row_index, zip_node}
+use Rattle.ps_meaning.specs.Shape.{PhysicalKind, equi_join, filter_node, group_by_node, in_memory_map, in_memory_sink, in_memory_source, independent_select, multiplexer, negative_slice, ordered_union, reduce, select_node, simple_projection, stream_map, streaming_slice, with_row_index, zip_node}
 use Rattle.ps_meaning.specs.Sound.{HasInputs, HasReaders}
 use Rattle.ps_meaning.specs.Steps.{exprs_of, user}
 use Rattle.ps_nodes.specs.Exprs.{expr_shown}
+use Rattle.ps_nodes.specs.Fit.{CanMap}
+use Rattle.ps_nodes.specs.Kept.{rows_made}
 use Rattle.ps_nodes.specs.Reductions.{reduced}
 use Rattle.ps_nodes.specs.declared.flow.FlowNode.{FlowNode}
 use Rattle.ps_nodes.specs.declared.flow.FlowNode.TheVariants as flow
 use Rattle.ps_nodes.specs.declared.zip.ZipNode.{ZipNode}
+use Rattle.ps_owned_maps.specs.Owned.{step_of}
 use Rattle.ps_options.specs.declared.options.Options.{Options}
 use Rattle.ps_ports.specs.Ports.{Sides}
-use Rattle.ps_turns.specs.Progress.{Progress, taking}
-use Rattle.ps_turns.specs.Updates.{shape_fault}
+use Rattle.ps_turns.specs.Keys.{distinct_keys}
+use Rattle.ps_turns.specs.Progress.{Progress, is_user_map, makes_table, taking}
+use Rattle.ps_turns.specs.Tables.{whole_tables}
+use Rattle.ps_turns.specs.Updates.{shape_fault, starts_giving, stored_tables}
 use Rattle.turn_laws.specs.Updating.{SeenNode, UpdatesTo, heads_seen}
 
 -- the kind of a node, as shapes have it
@@ -40,6 +47,9 @@ kind_of (flow.Multiplexer n) = multiplexer
 kind_of (flow.InMemorySink n) = in_memory_sink
 kind_of (flow.Zip n) = zip_node n.null_extend
 kind_of (flow.Reduce n) = reduce (reduced (names_of n.output_schema) (map expr_shown n.selectors.items) n.reductions.items)
+kind_of (flow.NegativeSlice n) = negative_slice n.back n.length
+kind_of (flow.InMemoryMap n) = in_memory_map (step_of n.map)
+kind_of (flow.GroupBy n) = group_by_node (map expr_shown n.keys.items) (reduced (drop (length n.keys.items) (names_of n.output_schema)) (map expr_shown n.selectors.items) n.reductions.items)
 kind_of (flow.EquiJoin n) = equi_join (record { left_on = exprs_of (map expr_shown n.left_on.items); right_on = exprs_of (map expr_shown n.right_on.items); args = n.args })
 
 -- nothing was given, booked or stored
@@ -50,6 +60,15 @@ nothing_behind = record { stage = taking; sent = 0; booked = 0; stores = []; tak
 abbrev pub counted_store : ℕ → List (List Row)
 counted_store n = replicate n [] ∷ []
 
+-- so many lists of keys, the first of which holds all
+abbrev pub all_in_first : List Row → ℕ → List (List Row)
+all_in_first keys zero = []
+all_in_first keys (suc k) = keys ∷ replicate k []
+
+-- the lists of a group-by: an update reads how many there are, and not which rows came
+abbrev pub lists_of : PhysicalKind → ℕ → List (List Row)
+lists_of kind n = all_in_first (distinct_keys (bare_node kind []) []) n
+
 -- what a node has behind it, as far as an update reads it
 abbrev pub progress_of : FlowNode → Progress
 progress_of (flow.InputIndependentSelect n) = record nothing_behind { sent = n.sent }
@@ -58,6 +77,10 @@ progress_of (flow.StreamingSlice n) = record nothing_behind { booked = n.state.b
 progress_of (flow.InMemorySource n) = record nothing_behind { sent = n.sent }
 progress_of (flow.Zip n) = record nothing_behind { booked = n.booked; stores = map counted_store n.came.items }
 progress_of (flow.Reduce n) = record nothing_behind { stage = stage_of n.stage; sent = n.sent }
+progress_of (flow.NegativeSlice n) =
+    record nothing_behind { stage = stage_of n.stage; sent = n.made.sent; booked = n.booked; stores = rows_of_each n.input ∷ []; made = rows_made n.made.table }
+progress_of (flow.InMemoryMap n) = record nothing_behind { stage = stage_of n.stage; sent = n.made.sent; stores = (n.input.rows ∷ []) ∷ []; made = rows_made n.made.table }
+progress_of (flow.GroupBy n) = record nothing_behind { stage = stage_of n.stage; sent = n.sent; lists = lists_of (kind_of (flow.GroupBy n)) n.lists }
 progress_of (flow.EquiJoin n) = record nothing_behind { stage = stage_of n.stage; sent = n.sent }
 progress_of _ = nothing_behind
 
@@ -70,7 +93,7 @@ abbrev pub empties_of : FlowNode → List Bool
 empties_of (flow.Multiplexer n) = told_empties n.empties
 empties_of _ = []
 
--- how its query is run: only a source holds it, and reads it
+-- how its query is run, where an update reads that: only sources, and what acts as one, hold it
 abbrev pub any_options : Options
 any_options =
     record {
@@ -88,18 +111,22 @@ any_options =
 
 abbrev pub options_of : FlowNode → Options
 options_of (flow.InMemorySource n) = n.options
+options_of (flow.NegativeSlice n) = n.made.options
+options_of (flow.InMemoryMap n) = n.made.options
+options_of (flow.GroupBy n) = n.options
 options_of _ = any_options
 
--- where no node stands: what a node says of itself, since it doesn't know where it stands
-abbrev pub nowhere : ℕ
-nowhere = 2 ^ 64 - 1
-
--- a node of a kind, with what it has behind it; where it stands, and the schemas of its inputs, aren't its own to know
+-- a node of a kind, with what it has behind it
 abbrev pub node_seen : PhysicalKind → Progress → List Bool → SeenNode
-node_seen kind progress empties = record { node = record { kind = kind; schema = []; origin = nowhere; inputs = [] }; schemas = []; empties = empties; progress = progress }
+node_seen kind progress empties = record { node = bare_node kind []; schemas = []; empties = empties; progress = progress }
+
+-- the schemas of its inputs, where it makes a table of these
+abbrev pub schemas_of : FlowNode → List Fields
+schemas_of (flow.InMemoryMap n) = n.input.schema ∷ []
+schemas_of _ = []
 
 abbrev pub seen : FlowNode → SeenNode
-seen n = node_seen (kind_of n) (progress_of n) (empties_of n)
+seen n = record (node_seen (kind_of n) (progress_of n) (empties_of n)) { schemas = schemas_of n }
 
 -- a node as its answer to what it is given reads it
 abbrev pub view_of : FlowNode → Sides → NodeView
@@ -109,6 +136,10 @@ view_of n given = record { options = options_of n; kind = kind_of n; progress = 
 abbrev pub IsNew : PhysicalKind → FlowNode → Type 0
 IsNew kind n = seen n ≡ node_seen kind nothing_behind []
 
+-- a new node of a kind that keeps inputs of these schemas, with these stores
+abbrev pub IsNewKeeper : PhysicalKind → List Fields → List (List (List Row)) → FlowNode → Type 0
+IsNewKeeper kind schemas stores n = seen n ≡ record (node_seen kind (record nothing_behind { stores = stores }) []) { schemas = schemas }
+
 -- a new zip of so many inputs
 pub record IsNewZip (extend : Bool) (inputs : ℕ) (n : ZipNode) : Type 0 where
   pub extends : n.null_extend ≡ extend
@@ -116,17 +147,14 @@ pub record IsNewZip (extend : Bool) (inputs : ℕ) (n : ZipNode) : Type 0 where
   pub came : n.came.items ≡ replicate inputs 0
   pub heads : length n.heads.items ≡ inputs
 
--- it has so many inputs: a zip as many as it has stores and heads
+-- it has so many inputs: a zip as many as it has stores and heads; and what makes a table of its inputs can make one
 abbrev pub HasInputsOf : FlowNode → ℕ → Type 0
+HasInputsOf (flow.InMemoryMap n) k = (k ≡ 1) × CanMap (step_of n.map) n.input.schema
 HasInputsOf (flow.Zip n) k = (1 ≤ k) × (length n.came.items ≡ k) × (length n.heads.items ≡ k)
 HasInputsOf n k = HasInputs (kind_of n) k
 
 abbrev pub HasPorts : FlowNode → (inputs outputs : ℕ) → Type 0
 HasPorts n inputs outputs = HasInputsOf n inputs × HasReaders (kind_of n) outputs
-
--- these nodes call no functions that a user handed in
-abbrev pub no_functions : Functions
-no_functions = record { count = 0; streams = λ n. false; answer = λ n f. None; declared = λ n s. None }
 
 -- an update of a node as the definitions of a run have it
 pub record Updates (a : FlowNode) (given : Sides) (b : FlowNode) (answer : Sides) : Type 0 where
@@ -134,6 +162,12 @@ pub record Updates (a : FlowNode) (given : Sides) (b : FlowNode) (answer : Sides
   pub options : options_of b ≡ options_of a
   pub ports : (inputs outputs : ℕ) → HasPorts a inputs outputs → HasPorts b inputs outputs
 
+-- A cause that an update finds: the heads of a zip can't agree, or the table that a map or a join makes where it begins to give is broken or has too many rows.
+abbrev pub Finds : FlowNode → Sides → Cause → Type 0
+Finds a given c =
+    (shape_fault (seen a).node (kind_of a) (heads_seen (seen a) given) given ≡ Some c)
+    ⊎ (IsTrue (makes_table (kind_of a) && (starts_giving (options_of a) (kind_of a) (progress_of a) given && not (is_user_map (kind_of a)))) × BreaksRows no_functions (seen a).node (whole_tables (schemas_of a) (stored_tables (progress_of a))) c)
+
 -- the errors of updates, at no node in particular
 abbrev pub Faults : FlowNode → Sides → PolarsError → Type 0
-Faults a given e = (c : Cause) × (shape_fault (seen a).node (kind_of a) (heads_seen (seen a) given) given ≡ Some c) × (e ≡ cause_error c)
+Faults a given e = (c : Cause) × Finds a given c × (e ≡ cause_error c)

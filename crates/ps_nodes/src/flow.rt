@@ -5,13 +5,17 @@ ghost use Rattle.node_states.specs.States.{is_passing};
 ghost use Rattle.ps_turns.specs.Progress.{is_intensive};
 ghost use Rattle.ps_nodes.specs.FlowLaws.{flow_laws};
 ghost use Rattle.ps_nodes.specs.Seen.{Faults as FaultsOf, HasPorts as HasPortsOf, Updates, kind_of, progress_of, seen};
+ghost use Rattle.ps_nodes.specs.Told.{IsToldOf, answer_kept, without_answer, word_of};
 ghost use Rattle.turn_laws.specs.Updating.{stages_behind as stages_seen};
 
 use crate::equi_join::EquiJoinNode;
 use crate::filter::FilterNode;
+use crate::group_by::GroupByNode;
+use crate::in_memory_map::InMemoryMapNode;
 use crate::independent_select::InputIndependentSelectNode;
 use crate::map::MapNode;
 use crate::multiplexer::MultiplexerNode;
+use crate::negative_slice::NegativeSliceNode;
 use crate::ordered_union::OrderedUnionNode;
 use crate::projection::SimpleProjectionNode;
 use crate::reduce::ReduceNode;
@@ -39,12 +43,15 @@ pub enum FlowNode {
     WithRowIndex(WithRowIndexNode),
     Map(MapNode),
     StreamingSlice(StreamingSliceNode),
+    NegativeSlice(NegativeSliceNode),
     InMemorySource(InMemorySourceNode),
     OrderedUnion(OrderedUnionNode),
     Multiplexer(MultiplexerNode),
     InMemorySink(InMemorySinkNode),
     Zip(ZipNode),
     Reduce(ReduceNode),
+    GroupBy(GroupByNode),
+    InMemoryMap(InMemoryMapNode),
     EquiJoin(EquiJoinNode),
 }
 
@@ -69,6 +76,14 @@ impl ComputeNode for FlowNode {
 
     ghost intensive = { λ n. is_intensive (kind_of n) (progress_of n).stage };
 
+    ghost word = { word_of };
+
+    ghost Initializes = { IsToldOf };
+
+    ghost answer = { answer_kept };
+
+    ghost emptied = { without_answer };
+
     fn name(&self) -> &str {
         match self {
             FlowNode::Filter(_) => "filter",
@@ -78,26 +93,35 @@ impl ComputeNode for FlowNode {
             FlowNode::WithRowIndex(_) => "with_row_index",
             FlowNode::Map(_) => "map",
             FlowNode::StreamingSlice(_) => "streaming_slice",
+            FlowNode::NegativeSlice(_) => "negative_slice",
             FlowNode::InMemorySource(_) => "in_memory_source",
             FlowNode::OrderedUnion(_) => "ordered_union",
             FlowNode::Multiplexer(_) => "multiplexer",
             FlowNode::InMemorySink(_) => "in_memory_sink",
             FlowNode::Zip(_) => "zip",
             FlowNode::Reduce(_) => "reduce",
+            FlowNode::GroupBy(_) => "group_by",
+            FlowNode::InMemoryMap(_) => "in_memory_map",
             FlowNode::EquiJoin(_) => "equi_join",
         }
     }
 
     fn initialize(&mut self, num_pipelines: usize) {
-        if let FlowNode::InMemorySource(node) = self {
-            node.cut_for(num_pipelines);
+        match self {
+            FlowNode::InMemorySource(node) => node.cut_for(num_pipelines),
+            FlowNode::NegativeSlice(node) => node.cut_for(num_pipelines),
+            FlowNode::InMemoryMap(node) => node.cut_for(num_pipelines),
+            _ => (),
         }
     }
 
     #[tactic(auto, using(crate::proofs::Turning::same_count))]
     fn stages_behind(&self) -> usize {
         match self {
+            FlowNode::NegativeSlice(node) => node.stage.behind(),
             FlowNode::Reduce(node) => node.stage.behind(),
+            FlowNode::GroupBy(node) => node.stage.behind(),
+            FlowNode::InMemoryMap(node) => node.stage.behind(),
             FlowNode::EquiJoin(node) => node.stage.behind(),
             _ => 0,
         }
@@ -105,32 +129,67 @@ impl ComputeNode for FlowNode {
 
     fn update_state(
         &mut self,
-        _alloc: Global,
+        alloc: Global,
         recv: &mut [PortState],
         send: &mut [PortState],
     ) -> PolarsResult<()> {
         match self {
-            FlowNode::InputIndependentSelect(node) => node.update(send),
-            FlowNode::StreamingSlice(node) => node.update(recv, send),
-            FlowNode::InMemorySource(node) => node.update(send),
-            FlowNode::OrderedUnion(node) => node.update(recv, send),
-            FlowNode::Multiplexer(node) => node.update(recv, send),
-            FlowNode::InMemorySink(node) => node.update(recv),
-            FlowNode::Zip(node) => node.update(recv, send)?,
-            FlowNode::Reduce(node) => node.update(recv, send),
-            FlowNode::EquiJoin(node) => node.update(recv, send),
+            FlowNode::InputIndependentSelect(node) => {
+                node.update(send);
+                Ok(())
+            }
+            FlowNode::StreamingSlice(node) => {
+                node.update(recv, send);
+                Ok(())
+            }
+            FlowNode::NegativeSlice(node) => node.update(alloc, recv, send),
+            FlowNode::InMemorySource(node) => {
+                node.update(send);
+                Ok(())
+            }
+            FlowNode::OrderedUnion(node) => {
+                node.update(recv, send);
+                Ok(())
+            }
+            FlowNode::Multiplexer(node) => {
+                node.update(recv, send);
+                Ok(())
+            }
+            FlowNode::InMemorySink(node) => {
+                node.update(recv);
+                Ok(())
+            }
+            FlowNode::Zip(node) => node.update(recv, send),
+            FlowNode::Reduce(node) => {
+                node.update(recv, send);
+                Ok(())
+            }
+            FlowNode::GroupBy(node) => {
+                node.update(recv, send);
+                Ok(())
+            }
+            FlowNode::InMemoryMap(node) => node.update(alloc, recv, send),
+            FlowNode::EquiJoin(node) => {
+                node.update(recv, send);
+                Ok(())
+            }
             FlowNode::Filter(_)
             | FlowNode::Select(_)
             | FlowNode::SimpleProjection(_)
             | FlowNode::WithRowIndex(_)
-            | FlowNode::Map(_) => pass(self, recv, send),
+            | FlowNode::Map(_) => {
+                pass(self, recv, send);
+                Ok(())
+            }
         }
-        Ok(())
     }
 
     fn is_memory_intensive_pipeline_blocker(&self) -> bool {
         match self {
             FlowNode::InMemorySink(_) => true,
+            FlowNode::NegativeSlice(node) => node.stage == Stage::Taking,
+            FlowNode::GroupBy(node) => node.stage == Stage::Taking,
+            FlowNode::InMemoryMap(node) => node.stage == Stage::Taking,
             FlowNode::EquiJoin(node) => node.stage == Stage::Taking,
             _ => false,
         }

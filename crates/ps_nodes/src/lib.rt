@@ -1,14 +1,19 @@
 // The nodes of a running query: how it is run, morsels and their numbers, expressions, and the nodes of its graph, one file each.
 #![tactic(auto)]
 
+mod cutting;
 pub mod equi_join;
 pub mod examples;
 pub mod filter;
 pub mod flow;
+pub mod group_by;
+pub mod in_memory_map;
 pub mod independent_select;
+mod made;
 pub mod map;
 pub mod morsel;
 pub mod multiplexer;
+pub mod negative_slice;
 pub mod ordered_union;
 pub mod projection;
 pub mod reduce;
@@ -19,6 +24,7 @@ pub mod sequence;
 pub mod sink;
 pub mod slice;
 pub mod source;
+mod starting;
 pub mod stream_expr;
 pub mod zip;
 

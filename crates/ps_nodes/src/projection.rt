@@ -1,4 +1,5 @@
 //! The projection.
+ghost use Rattle.std.specs.Prelude.{◌≡◌};
 ghost use Rattle.ps_meaning.specs.Shape.{simple_projection};
 ghost use Rattle.ps_nodes.specs.Seen.{IsNew};
 ghost use Rattle.ps_nodes.specs.declared.flow.FlowNode.TheVariants as flow;
@@ -16,7 +17,8 @@ pub struct SimpleProjectionNode {
 impl SimpleProjectionNode {
     /// The projection on these columns of inputs with this schema.
     pub fn new(columns: Vec<PlSmallStr>, input_schema: Schema) -> SimpleProjectionNode
-        ensures { IsNew (simple_projection columns.items) (flow.SimpleProjection result) }
+        ensures new { IsNew (simple_projection columns.items) (flow.SimpleProjection result) }
+        ensures input_schema { result.input_schema ≡ input_schema }
     {
         SimpleProjectionNode {
             columns,

@@ -32,7 +32,8 @@ impl ReduceNode {
         reductions: Vec<Reduction>,
         output_schema: Schema,
     ) -> ReduceNode
-        ensures { IsNew (reduce (reduced (names_of output_schema) (map expr_shown selectors.items) reductions.items)) (flow.Reduce result) }
+        ensures new { IsNew (reduce (reduced (names_of output_schema) (map expr_shown selectors.items) reductions.items)) (flow.Reduce result) }
+        ensures output_schema { result.output_schema ≡ output_schema }
     {
         ReduceNode {
             selectors,

@@ -1,5 +1,5 @@
 //! Selects.
-ghost use Rattle.std.specs.Prelude.{map};
+ghost use Rattle.std.specs.Prelude.{◌≡◌, map};
 ghost use Rattle.ps_nodes.specs.Exprs.{expr_shown};
 ghost use Rattle.ps_nodes.specs.Seen.{IsNew};
 ghost use Rattle.ps_nodes.specs.declared.flow.FlowNode.TheVariants as flow;
@@ -19,7 +19,8 @@ pub struct SelectNode {
 impl SelectNode {
     /// The select of these expressions, whose output has this schema.
     pub fn new(selectors: Vec<StreamExpr>, schema: Schema, extend_original: bool) -> SelectNode
-        ensures { IsNew (select_node (map expr_shown selectors.items) extend_original) (flow.Select result) }
+        ensures new { IsNew (select_node (map expr_shown selectors.items) extend_original) (flow.Select result) }
+        ensures schema { result.schema ≡ schema }
     {
         SelectNode {
             selectors,

@@ -45,7 +45,8 @@ fn with_rows(
 impl InMemorySinkNode {
     /// The sink of rows with this schema.
     pub fn new(schema: Schema) -> InMemorySinkNode
-        ensures { IsNew in_memory_sink (flow.InMemorySink result) }
+        ensures new { IsNew in_memory_sink (flow.InMemorySink result) }
+        ensures schema { result.schema ≡ schema }
     {
         InMemorySinkNode { schema, kept: None }
     }

@@ -2,9 +2,11 @@
 ghost use Rattle.std.specs.Prelude.{◌≡◌, ◌+◌, ◌<◌, ◌^◌, [], length};
 ghost use Rattle.node_states.specs.Views.{sides_of};
 ghost use Rattle.ps_meaning.specs.Shape.{in_memory_source};
+ghost use Rattle.ps_nodes.specs.Cutting.{IsCutFor, IsFirstCut};
 ghost use Rattle.ps_nodes.specs.Seen.{IsNew, Updates};
 ghost use Rattle.ps_nodes.specs.declared.flow.FlowNode.TheVariants as flow;
 
+use crate::cutting::{first_options, for_workers};
 use crate::sequence::MorselSeq;
 use node_states::{cuts, source};
 use ps_frame::frame::DataFrame;
@@ -20,19 +22,11 @@ pub struct InMemorySourceNode {
     pub(crate) sent: usize,
 }
 
-/// One worker, and 100,000 rows a morsel: how a source is cut before it is told otherwise.
-fn first_options() -> Options {
-    match Options::new(1, 100_000, 1, 0) {
-        Some(options) => options,
-        // each of these numbers is in its range
-        None => unreachable!(),
-    }
-}
-
 impl InMemorySourceNode {
     /// The source of this table, whose morsels are numbered from this number on.
     pub fn new(source: DataFrame, seq_offset: MorselSeq) -> InMemorySourceNode
-        ensures { IsNew (in_memory_source source) (flow.InMemorySource result) }
+        ensures new { IsNew (in_memory_source source) (flow.InMemorySource result) }
+        ensures cut { IsFirstCut result.options }
     {
         InMemorySourceNode {
             source,
@@ -50,16 +44,11 @@ impl InMemorySourceNode {
     }
 
     /// It is cut for so many workers from now on, if options may have so many.
-    pub(crate) fn cut_for(&mut self, workers: usize) {
-        let options = &self.options;
-        if let Some(options) = Options::new(
-            workers,
-            options.morsel_rows(),
-            options.partitions(),
-            options.seed(),
-        ) {
-            self.options = options;
-        }
+    pub(crate) fn cut_for(&mut self, workers: usize)
+        ensures cut { IsCutFor workers self.old.options self.new.options }
+        ensures others { self.new ≡ record self.old { options = self.new.options } }
+    {
+        self.options = for_workers(&self.options, workers);
     }
 
     /// One morsel more is claimed.

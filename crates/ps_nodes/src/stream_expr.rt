@@ -1,24 +1,43 @@
 //! Expressions of nodes.
-ghost use Rattle.std.specs.Prelude.{◌≡◌, Err, IfOk, OnErr};
+ghost use Rattle.std.specs.Prelude.{◌≡◌, ℕ, Err, IfOk, IsSome, OnErr, Some};
+ghost use Rattle.ps_frame.specs.Eval.{eval};
+ghost use Rattle.ps_frame.specs.Evaluated.{StandsFor};
+ghost use Rattle.ps_frame.specs.Tables.{whole};
 ghost use Rattle.ps_frame.specs.Trees.{IsExpression, tree_at};
+ghost use Rattle.ps_frame.specs.Typing.{kind_over};
 ghost use Rattle.ps_frame.specs.declared.refusal.PolarsError.{PolarsError};
 ghost use Rattle.ps_meaning.specs.Steps.{name_in};
 ghost use Rattle.ps_nodes.specs.Exprs.{expr_shown};
 
 use ps_copies::exprs::copy_expr;
 use ps_copies::try_clone::TryClone;
+use ps_expr_eval::evaluate::evaluate;
 use ps_frame::expr::AExpr;
+use ps_frame::frame::DataFrame;
 use ps_frame::refusal::{PolarsError, PolarsResult};
+use ps_frame::value::Evaluated;
 use ps_meaning::options::{ExprIR, OutputName};
 use pu_base::{Arena, Node};
 use std::alloc::Global;
+use std::marker::Model;
 
-/// An expression with a name, in an arena of its own.
+/// An expression with a name, in an arena of its own, which holds all that it names.
 #[derive(Drop)]
 pub struct StreamExpr {
     exprs: Arena<AExpr>,
     root: Node,
     name: OutputName,
+}
+
+impl Model for StreamExpr {
+    ghost use Rattle.ps_frame.specs.Trees.{IsExpression};
+    ghost use Rattle.ps_nodes.specs.Exprs.{ExprParts};
+
+    ghost Value = { ExprParts };
+
+    ghost view = { λ e. record { exprs = e.exprs.items; root = e.root; name = e.name } };
+
+    ghost invariant = { λ e. IsExpression e.exprs.items e.root };
 }
 
 impl StreamExpr {
@@ -39,5 +58,18 @@ impl StreamExpr {
             return Err(PolarsError::OutOfMemory);
         };
         Ok(StreamExpr { exprs, root, name })
+    }
+
+    /// The column of the expression over a table over which it has a kind: a faulty cell holds one of that cell's causes,
+    /// and `broken` is empty exactly where nothing ended the column early, and else holds one of the causes that did.
+    ///
+    /// Fails only for want of memory.
+    pub fn evaluate(&self, alloc: Global, df: &DataFrame) -> PolarsResult<Evaluated>
+        requires { IsSome (kind_over df.now.schema (expr_shown self.now).1) }
+        ensures stands { IfOk result (λ evaluated. (node : ℕ) → StandsFor evaluated (eval node (whole df.now) (expr_shown self.now).1)) }
+        ensures kind { IfOk result (λ evaluated. kind_over df.now.schema (expr_shown self.now).1 ≡ Some evaluated.dtype) }
+        ensures memory { OnErr result (result ≡ Err PolarsError.OutOfMemory) }
+    {
+        evaluate(alloc, self.root, &self.exprs, df)
     }
 }

@@ -1,5 +1,5 @@
 //! The zip.
-ghost use Rattle.std.specs.Prelude.{◌≡◌, List, ◌+◌, ◌<◌, ◌≤◌, ◌^◌, Err, IfErr, IfOk, OnErr, OnOk, length, slice_index, slice_set};
+ghost use Rattle.std.specs.Prelude.{◌≡◌, List, ◌+◌, ◌<◌, ◌^◌, Err, IfErr, IfOk, OnErr, OnOk, length, slice_index, slice_set};
 ghost use Rattle.node_states.specs.States.{IsZip};
 ghost use Rattle.node_states.specs.Views.{sides_of};
 ghost use Rattle.ps_frame.specs.declared.refusal.PolarsError.{PolarsError};
@@ -31,6 +31,7 @@ impl ZipNode {
     /// Fails only for want of memory.
     pub fn new(alloc: Global, null_extend: bool, schemas: Vec<Schema>) -> PolarsResult<ZipNode>
         ensures new { IfOk result (λ n. IsNewZip null_extend (length schemas.items) n) }
+        ensures schemas { IfOk result (λ n. n.schemas.items ≡ schemas.items) }
         ensures memory { OnErr result (result ≡ Err PolarsError.OutOfMemory) }
     {
         let inputs = schemas.len();
@@ -53,7 +54,7 @@ impl ZipNode {
         requires input { input < length self.old.came.items }
         requires counted { slice_index self.old.came.items input + rows < 2 ^ 64 }
         ensures came { self.new.came.items ≡ slice_set self.old.came.items input (slice_index self.old.came.items input + rows) }
-        ensures booked { self.new.booked ≡ self.old.booked }
+        ensures others { self.new ≡ record self.old { came = self.new.came } }
     {
         self.came[input] += rows;
     }
@@ -61,8 +62,7 @@ impl ZipNode {
     /// So many rows of each input are claimed.
     pub fn book(&mut self, rows: usize)
         requires { self.old.booked + rows < 2 ^ 64 }
-        ensures booked { self.new.booked ≡ self.old.booked + rows }
-        ensures came { self.new.came.items ≡ self.old.came.items }
+        ensures { self.new ≡ record self.old { booked = self.old.booked + rows } }
     {
         self.booked += rows;
     }

@@ -6,7 +6,7 @@ ghost use Rattle.ps_frame.specs.Trees.{IsComplete, tree_at};
 ghost use Rattle.ps_meaning.specs.Maps.{map_step};
 ghost use Rattle.ps_meaning.specs.Nodes.{GivesFrame, MayFault};
 ghost use Rattle.ps_meaning.specs.Steps.{step_exprs};
-ghost use Rattle.ps_owned_maps.specs.Owned.{step_of};
+ghost use Rattle.ps_owned_maps.specs.Owned.{is_function, step_of};
 ghost use Rattle.ps_node_eval.specs.Ready.{IsReadyFor};
 
 use crate::fields::push_fields;
@@ -59,6 +59,13 @@ impl OwnedMap {
             kind,
             exprs: copies,
         })
+    }
+
+    /// Whether it is a function that the caller handed in.
+    pub fn is_function(&self) -> bool
+        ensures { result ≡ is_function (step_of self.now) }
+    {
+        matches!(&self.kind, MapKind::Function(_))
     }
 
     /// What the map gives at the node `at` over a table for which it is fit.

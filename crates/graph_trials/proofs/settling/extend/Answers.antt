@@ -1,5 +1,5 @@
 -- A chain with a node that reads its last one is a chain.
-use Rattle.std.proofs.Common.{◌≡◌, ◌+◌, suc, length, List, [], ◌∷◌, ◌++◌, ap, ◌∙◌, arith}
+use Rattle.std.proofs.Common.{◌+◌, length, [], ◌∷◌, ◌++◌, ap, ◌∙◌, arith}
 use Rattle.graph_trials.specs.Chains.{kinds_of}
 use Rattle.graph_trials.specs.declared.kind.Kind.{Kind}
 use Rattle.graph_trials.proofs.Chaining.{chain_more, kinds_more, one_sender, pipes_more}

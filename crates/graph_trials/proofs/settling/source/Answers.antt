@@ -1,5 +1,5 @@
 -- One node alone is a chain.
-use Rattle.std.proofs.Common.{List, [], ◌∷◌, ap, ◌∙◌}
+use Rattle.std.proofs.Common.{[], ◌∷◌, ap, ◌∙◌}
 use Rattle.graph_trials.specs.declared.kind.Kind.{Kind}
 use Rattle.graph_trials.proofs.Chaining.{chain_first, first_pipes, kinds_first}
 use Rattle.graph_trials.proofs.settling.source.Goals as goal

@@ -1,9 +1,10 @@
 -- It turns by its stage alone, and answers by its stage after the turn.
 use Rattle.std.proofs.Common.{[], refl}
+use Rattle.made_tables.specs.Uncalled.{no_functions}
 use Rattle.node_states.specs.Stages.{stage_of}
 use Rattle.node_states.specs.Views.{sides_of}
 use Rattle.ps_nodes.proofs.Turning.{turns_plainly}
-use Rattle.ps_nodes.specs.Seen.{any_options, no_functions, progress_of, seen, view_of}
+use Rattle.ps_nodes.specs.Seen.{any_options, progress_of, seen, view_of}
 use Rattle.ps_nodes.specs.declared.flow.FlowNode.TheVariants as flow
 use Rattle.ps_nodes.proofs.reduce.ReduceNode.update.Goals as goal
 

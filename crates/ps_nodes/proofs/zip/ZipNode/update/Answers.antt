@@ -1,12 +1,13 @@
 -- Where its heads agree it answers by them, and else it finds that they don't.
 use Rattle.std.proofs.Common.{◌≡◌, ◌∙◌, Bool, List, None, Some, arith, ap, cond, inl, refl, subst, sym}
+use Rattle.made_tables.specs.Made.{nowhere}
 use Rattle.node_states.specs.States.{IsZip}
 use Rattle.node_states.specs.Views.{NodeView, sides_of}
 use Rattle.node_states.specs.declared.heads.HeadState.{HeadState}
 use Rattle.ps_frame.specs.Causes.{Cause}
 use Rattle.ps_frame.specs.declared.refusal.PolarsError.TheVariants as error
 use Rattle.ps_frame.specs.declared.value.DataFault.TheVariants as data_fault
-use Rattle.ps_nodes.specs.Seen.{Updates, nowhere, seen, view_of}
+use Rattle.ps_nodes.specs.Seen.{Updates, seen, view_of}
 use Rattle.ps_nodes.specs.declared.flow.FlowNode.TheVariants as flow
 use Rattle.ps_nodes.specs.declared.zip.ZipNode.{ZipNode}
 use Rattle.pu_base.specs.declared.arena.Node.{Node}
@@ -28,7 +29,7 @@ returns-then-has_shape_fault-clause-fault c =
     let at : c.default.result.0 ≡ nowhere = omega arith in
     let node : Node → Node = λ n. n in (
       shape,
-      c.has_shape_fault.ensures (view_of a given) (seen a).node zip ∙ ap (λ b. cond b (Some shape) None) c.if-has_shape_fault.true,
+      inl (c.has_shape_fault.ensures (view_of a given) (seen a).node zip ∙ ap (λ b. cond b (Some shape) None) c.if-has_shape_fault.true),
       ap (λ n. error.ShapeMismatch (node (record { 0 = n }))) at,
     )
 

@@ -1,0 +1,3 @@
+pub mod Broken
+mod Alone
+mod Mapped

@@ -1,0 +1,5 @@
+// Tables that a node makes of all rows of its inputs: by a map, or by a join.
+#![tactic(auto)]
+
+pub mod map_tables;
+pub mod no_functions;
