@@ -71,6 +71,13 @@ impl<K: Key, V> SlotMap<K, V> {
         self.len == 0
     }
 
+    /// How many inserts there were so far, with those whose values were removed: the number of the next key.
+    pub fn inserts(&self) -> usize
+        ensures { result ≡ length self.now.slots }
+    {
+        self.slots.len()
+    }
+
     /// Stores the value under a new key: its number is the number of inserts so far.
     ///
     /// It fails only for want of memory, and not where there is room; the map is then as before, and the value is dropped.
