@@ -17,7 +17,7 @@ use Rattle.ps_turns.specs.Heads.{Head}
 use Rattle.ps_turns.specs.Keys.{key_trees, part_of}
 use Rattle.ps_turns.specs.Pulls.{after_store, passes_limit}
 use Rattle.ps_turns.specs.Progress.{is_multiplexer}
-use Rattle.ps_turns.specs.Results.{BreaksJoined, BreaksPartial, IsBrokenOver, IsResultOf, probed_rows, rows_fault, unmatched_rows}
+use Rattle.ps_turns.specs.Results.{BreaksJoined, BreaksPartial, BreaksRows, IsBrokenOver, IsResultOf, probed_rows, rows_fault, unmatched_rows}
 use Rattle.ps_turns.specs.Tables.{whole_tables}
 use Rattle.ps_turns.specs.Tasks.{Task, bad, computes, gives_last, gives_part, hands_on, keeps, probes}
 use Rattle.ps_turns.specs.Updates.{BreaksTable, heads_differ, shape_fault, stored_tables}
@@ -62,6 +62,10 @@ module _ (F : Functions) where
       by (inl there) = of_physical F p ts b.0 whole b.1 c there
       by (inr large) = of_rows p c large.1
 
+  of_unmade : (p : PhysicalNode) (ts : List Table) → AllByRecursion IsWhole ts → (c : Cause) → BreaksRows F p ts c → c.node ≡ p.origin
+  of_unmade p ts whole c (inl b) = of_broken p ts whole c b
+  of_unmade p ts whole c (inr large) = of_rows p c large.1
+
   -- a side of a join, with its keys
   of_side : (p : PhysicalNode) (keys : List Tree) (t : Table) → t.broken ≡ [] → (c : Cause) → Contains ((keyed p.origin keys t).broken ++ (keyed p.origin keys t).lost) c → c.node ≡ p.origin
   of_side p keys t whole c there =
@@ -101,7 +105,7 @@ module _ (F : Functions) where
   of_found : (s : World) (node : Node) (n : ℕ) (c : Cause) → (shape_fault node.node node.node.kind (heads_of s n node) (given_at s n) ≡ Some c) ⊎ BreaksTable F s.options node.node (schemas_for s node) (given_at s n) node.progress c → c.node ≡ node.node.origin
   of_found s node n c (inl e) = of_shape node.node node.node.kind (heads_of s n node) (given_at s n) c e
   of_found s node n c (inr b) =
-      of_broken node.node (whole_tables (schemas_for s node) (stored_tables node.progress)) (all_whole (schemas_for s node) (stored_tables node.progress)) c b.1
+      of_unmade node.node (whole_tables (schemas_for s node) (stored_tables node.progress)) (all_whole (schemas_for s node) (stored_tables node.progress)) c b.1
 
   -- a node of the world, and the entry of its number in the shape
   shown : (w : World) (n : ℕ) (node : Node) (p : PhysicalNode) → slice_get w.nodes n ≡ Some node → slice_get (shape_of w) n ≡ Some p → node.node ≡ p

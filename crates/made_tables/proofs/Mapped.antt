@@ -2,7 +2,7 @@
 use Rattle.std.proofs.Common.{◌≤◌, [], ◌∷◌, ap, inl, inr, length, refl, subst}
 use Rattle.std.specs.Prelude.{Contains}
 use Rattle.made_tables.proofs.Broken.{of_cut}
-use Rattle.made_tables.specs.Made.{BreaksRows, MayBreak, bare_node, nowhere}
+use Rattle.made_tables.specs.Made.{MayBreak, bare_node, nowhere}
 use Rattle.ps_frame.specs.Aggregates.{max_rows}
 use Rattle.ps_frame.specs.Functions.{Functions}
 use Rattle.ps_frame.specs.Tables.{Frame, Table, whole}
@@ -11,7 +11,7 @@ use Rattle.ps_frame.specs.declared.value.DataFault.{DataFault}
 use Rattle.ps_meaning.specs.Nodes.{GivesFrame, IsFaultAt, MayFault}
 use Rattle.ps_meaning.specs.Shape.{PhysicalNode, in_memory_map}
 use Rattle.ps_meaning.specs.Steps.{Step, step_cut}
-use Rattle.ps_turns.specs.Results.{IsMade}
+use Rattle.ps_turns.specs.Results.{BreaksRows, IsMade}
 
 module _ (F : Functions) (step : Step) (f : Frame) where
   abbrev here : PhysicalNode

@@ -6,8 +6,8 @@ use Rattle.ps_frame.specs.Tables.{Fields, Table}
 use Rattle.ps_frame.specs.declared.refusal.PolarsError.{PolarsError}
 use Rattle.ps_frame.specs.declared.refusal.PolarsError.TheVariants as error
 use Rattle.ps_meaning.specs.Errors.{cause_error}
-use Rattle.ps_meaning.specs.Shape.{IsLargeByStep, PhysicalKind, PhysicalNode, as_step}
-use Rattle.ps_turns.specs.Results.{IsBrokenOver, rows_fault}
+use Rattle.ps_meaning.specs.Shape.{PhysicalKind, PhysicalNode}
+use Rattle.ps_turns.specs.Results.{BreaksRows}
 
 -- where no node stands
 abbrev pub nowhere : ℕ
@@ -17,10 +17,6 @@ nowhere = 2 ^ 64 - 1
 abbrev pub bare_node : PhysicalKind → Fields → PhysicalNode
 bare_node kind schema = record { kind = kind; schema = schema; origin = nowhere; inputs = [] }
 
--- a cause that breaks what the node makes of the inputs; or a column of its step, or what it makes, has too many rows
-abbrev pub BreaksRows : Functions → PhysicalNode → List Table → Cause → Type 0
-BreaksRows F p ts c = IsBrokenOver F p ts c ⊎ (IsLargeByStep F p.origin (as_step p.kind) ts × (c ≡ rows_fault p))
-
--- the error is want of memory, or stands for such a cause
+-- the error is want of memory, or stands for a cause by which the node makes no table of the inputs
 abbrev pub MayBreak : Functions → PhysicalNode → List Table → PolarsError → Type 0
 MayBreak F p ts e = (e ≡ error.OutOfMemory) ⊎ ((c : Cause) × BreaksRows F p ts c × (e ≡ cause_error c))

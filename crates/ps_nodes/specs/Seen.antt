@@ -4,7 +4,8 @@ use Rattle.std.proofs.Common.{lit≤}
 use Rattle.std.specs.declared.alloc.Global.{Global}
 use Rattle.std.specs.declared.vec.Vec.{Vec}
 use Rattle.kept_tables.specs.Kept.{rows_of_each}
-use Rattle.made_tables.specs.Made.{BreaksRows, bare_node}
+use Rattle.made_tables.specs.Made.{bare_node}
+use Rattle.ps_turns.specs.Results.{BreaksRows}
 use Rattle.made_tables.specs.Uncalled.{no_functions}
 use Rattle.node_states.specs.Stages.{stage_of}
 use Rattle.node_states.specs.Views.{NodeView}

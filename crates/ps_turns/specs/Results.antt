@@ -7,7 +7,7 @@ use Rattle.ps_frame.specs.Tables.{IsWhole, Row, Table}
 use Rattle.ps_frame.specs.Zip.{Zipped}
 use Rattle.ps_frame.specs.declared.value.DataFault.TheVariants as data_fault
 use Rattle.ps_meaning.specs.Cases.{first_table, keyed, out_schema, rows_table, second_table}
-use Rattle.ps_meaning.specs.Shape.{PhysicalBefore, PhysicalCase, PhysicalKind, PhysicalNode, as_step, equi_join, narrowed, tables_for}
+use Rattle.ps_meaning.specs.Shape.{IsLargeByStep, PhysicalBefore, PhysicalCase, PhysicalKind, PhysicalNode, as_step, equi_join, narrowed, tables_for}
 use Rattle.ps_meaning.specs.Joins.{front_rows, last_rows}
 use Rattle.ps_meaning.specs.Steps.{JoinStep, join}
 use Rattle.ps_turns.specs.Keys.{key_trees, keys_among, part_of}
@@ -26,6 +26,10 @@ module _ (F : Functions) where
   abbrev pub IsBrokenOver : PhysicalNode → List Table → Cause → Type 0
   IsBrokenOver p ts c =
       (U : Table) × PhysicalBefore F p (as_step p.kind) (tables_for F p.kind ts) U × (Contains U.broken c ⊎ (max_rows < length U.rows) × (c ≡ rows_fault p))
+
+  -- a cause by which it makes no table of whole inputs: it breaks what the node may give; or a column of its step, or what it gives, has too many rows
+  abbrev pub BreaksRows : PhysicalNode → List Table → Cause → Type 0
+  BreaksRows p ts c = IsBrokenOver p ts c ⊎ IsLargeByStep F p.origin (as_step p.kind) (tables_for F p.kind ts) × (c ≡ rows_fault p)
 
   -- A partial of a reduce or a group-by has the rows that the node itself gives over the morsel: one, or one for each key. That of an equi join has the rows of a right morsel with their keys.
   abbrev pub side_of : PhysicalNode → (input : ℕ) → List Table → Zipped

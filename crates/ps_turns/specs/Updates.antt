@@ -19,7 +19,7 @@ use Rattle.ps_turns.specs.Heads.{Head, head_lengths, stored_rows}
 use Rattle.ps_turns.specs.Keys.{IsSplit}
 use Rattle.ps_options.specs.declared.options.Options.{Options}
 use Rattle.ps_turns.specs.Progress.{Progress, Stage, giving, is_giving, is_taking, is_user_map, keeps_input, makes_table, spent, taking}
-use Rattle.ps_turns.specs.Results.{IsBrokenOver, IsMade}
+use Rattle.ps_turns.specs.Results.{BreaksRows, IsMade}
 use Rattle.ps_turns.specs.Tables.{whole_tables}
 
 abbrev pub exhausted_rows : Options → ℕ → Option (List Row) → Bool
@@ -100,10 +100,10 @@ abbrev pub shape_fault : PhysicalNode → PhysicalKind → List Head → Sides �
 shape_fault p (zip_node false) hs given = cond (heads_differ hs given) (Some (record { fault = data_fault.Shape; node = p.origin })) None
 shape_fault p _ hs given = None
 
--- a cause that breaks the table that an update or a fill would make
+-- a cause by which an update or a fill makes no table
 abbrev pub BreaksTable : Functions → Options → PhysicalNode → List Fields → Sides → Progress → Cause → Type 0
 BreaksTable F o p ss given a c =
-    IsTrue (makes_table p.kind && (is_waiting p.kind a given || (starts_giving o p.kind a given && not (is_user_map p.kind)))) × IsBrokenOver F p (whole_tables ss (stored_tables a)) c
+    IsTrue (makes_table p.kind && (is_waiting p.kind a given || (starts_giving o p.kind a given && not (is_user_map p.kind)))) × BreaksRows F p (whole_tables ss (stored_tables a)) c
 
 -- a source, and what acts as one
 abbrev pub source_state : Bool → PortState → PortState

@@ -83,7 +83,7 @@ module _ (F : Functions) (o : Options) (a : SeenNode) (given : Sides) where
       breaks_waiting : (c : Cause) → IsTrue (is_waiting a.node.kind a.progress given) → IsBrokenOver F a.node (whole_tables a.schemas (stored_tables a.progress)) c → BreaksTable F o a.node a.schemas given a.progress c
       breaks_waiting c w b =
           let known : Waits a.node.kind a.progress given = waits a.node.kind a.progress given w in
-          ((λ i. waits_for_table a.node.kind known.is_map i && (w i || (starts_giving o a.node.kind a.progress given && not (is_user_map a.node.kind)))), b)
+          ((λ i. waits_for_table a.node.kind known.is_map i && (w i || (starts_giving o a.node.kind a.progress given && not (is_user_map a.node.kind)))), inl b)
 
       either : (m u s w : Bool) → (m && not u) ≡ true → s ≡ true → (m && (w || (s && not u))) ≡ true
       either true false true true e d = refl
@@ -110,7 +110,7 @@ module _ (F : Functions) (o : Options) (a : SeenNode) (given : Sides) where
       unfilled w =
           elim (turns a.progress) [
             | inl (b, t) ↦ goes_with a.progress (inl (w, refl)) b t agrees
-            | inr (c, s, m, b) ↦ inr (c, inr (either (makes_table a.node.kind) (is_user_map a.node.kind) (starts_giving o a.node.kind a.progress given) (is_waiting a.node.kind a.progress given) m s, b))
+            | inr (c, s, m, b) ↦ inr (c, inr (either (makes_table a.node.kind) (is_user_map a.node.kind) (starts_giving o a.node.kind a.progress given) (is_waiting a.node.kind a.progress given) m s, inl b))
           ]
 
       -- a zip waits for nothing

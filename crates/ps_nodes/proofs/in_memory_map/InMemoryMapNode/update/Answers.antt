@@ -1,6 +1,7 @@
 -- It turns by its stage, with its table, and answers by its stage after the turn.
 use Rattle.std.proofs.Common.{List, [], ◌∷◌, inl, inr, refl, subst, sym}
-use Rattle.made_tables.specs.Made.{BreaksRows, bare_node}
+use Rattle.made_tables.specs.Made.{bare_node}
+use Rattle.ps_turns.specs.Results.{BreaksRows}
 use Rattle.made_tables.specs.Uncalled.{no_functions}
 use Rattle.node_states.specs.Stages.{stage_of}
 use Rattle.node_states.specs.Views.{sides_of}
