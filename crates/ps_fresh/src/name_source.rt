@@ -46,6 +46,14 @@ impl NameSource {
         surveyed::<Brand>(alloc, Blank::new(1), valid, exprs)
     }
 
+    /// The number from which the next fresh one is looked for; it is one of 64 bits.
+    pub fn counter(&self) -> u64
+        ensures number { result ≡ self.now.next }
+        ensures fits { self.now.next < 2 ^ 64 }
+    {
+        self.next
+    }
+
     /// The least number from the counter on whose name isn't in use, where the counter can pass it.
     fn free_number(&self) -> Option<u64>
         ensures some { IfSome result (λ k. (k ≡ fresh_number self.now) × (k + 1 < 2 ^ 64)) }
