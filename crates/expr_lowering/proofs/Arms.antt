@@ -1,5 +1,5 @@
 -- What a call does at an expression, put together from what its steps answer.
-use Rattle.std.proofs.Common.{◌≡◌, ℕ, suc, ◌+◌, ◌-◌, ◌^◌, ◌<◌, Bool, true, false, List, [], ◌∷◌, ◌++◌, length, refl, sym, ap, subst, ◌∙◌, arith}
+use Rattle.std.proofs.Common.{◌≡◌, ℕ, suc, ◌+◌, ◌-◌, Bool, true, false, List, [], ◌∷◌, ◌++◌, length, refl, sym, ap, subst, ◌∙◌, arith}
 use Rattle.std.specs.Prelude.{Err, None, Ok, OnOk, Result, map}
 use Rattle.std.specs.List.{AllByRecursion}
 use Rattle.pu_base.specs.declared.arena.Node.{Node}
@@ -15,7 +15,7 @@ use Rattle.ps_phys.specs.Shown.{kind_of, stream_of, streams_of}
 use Rattle.ps_phys.specs.declared.phys.PhysNodeKind.{PhysNodeKind}
 use Rattle.ps_phys.specs.declared.phys.PhysStream.{PhysStream}
 use Rattle.ps_copies.specs.Copies.{KeepsTrees}
-use Rattle.ps_rules.specs.Calls.{Bundle, Call, Operand, given_bundle}
+use Rattle.ps_rules.specs.Calls.{Bundle, Operand, given_bundle}
 use Rattle.ps_rules.specs.Lowered.{as_operand, lower}
 use Rattle.ps_rules.specs.Names.{after_fresh, fresh_name}
 use Rattle.ps_rules.specs.Rules.{filtered_column, first_name, first_tree, other_names, selected, sorted_by, sorted_column, stays}
@@ -23,14 +23,25 @@ use Rattle.ps_rules.specs.Slots.{Made, State, Stream, added, after_name, after_n
 use Rattle.ps_fresh.specs.Known.{Remembers}
 use Rattle.ps_fresh.specs.declared.lowering.Lowering.{Lowering}
 use Rattle.lowering_parts.specs.declared.gathered.Gathered.{Gathered}
-use Rattle.lowering_parts.specs.Gathered.{AreWhole, Begins, Follows, Gathers, GoesOn, HasRoom, Later, Makes, call_of, made_of, state_of, trees_at}
+use Rattle.lowering_parts.specs.Gathered.{AreWhole, Begins, Follows, Gathers, GoesOn, Later, Makes, made_of, state_of, trees_at}
 use Rattle.lowering_parts.proofs.Going.{begins_same, goes_named, goes_then}
 use Rattle.lowering_parts.proofs.Grown.{kept-then}
-use Rattle.lowering_parts.proofs.Sizes.{size}
 use Rattle.expr_lowering.proofs.Following.{bundle_follows, keys_later, follows_from, follows_same, given_follows, makes_from, makes_next, same_next, trees_later}
-use Rattle.expr_lowering.proofs.Least.{keyed_sort}
-use Rattle.expr_lowering.proofs.Rooms.{room_of_columns}
 use Rattle.expr_lowering.proofs.Ruled.{apart_rule, lower_apart, lower_stays, names_alike, operands_as, states_alike}
+
+-- the select of operands under fresh names, and the sort of it in a sort by keys
+module _ (at : ℕ) (input : Stream) where
+  abbrev pub named_select : List Operand → State → Made
+  named_select os s = selected at input (under (new_names os s) os) (after_names os s)
+
+  abbrev pub keyed_sort : List Bool → List Bool → List Operand → State → Made
+  keyed_sort d u os s =
+      let m = named_select os s in
+      over_same at (in_memory_map (sort (record { keys = columns_named (other_names (new_names os s)); descending = d; nulls_last = u; cut = None }))) m.stream m.state
+
+-- the names of a filter, put into one list
+pub pushed_two : {xs ys : List Name} {u v x y : Name} → xs ≡ u ∷ [] → u ≡ x → v ≡ y → ys ≡ xs ++ v ∷ [] → ys ≡ x ∷ y ∷ []
+pushed_two {xs = xs} {ys = ys} {u = u} {v = v} {x = x} {y = y} one first second more = more ∙ (λ i. one i ++ second i ∷ []) ∙ ap (λ n. n ∷ y ∷ []) first
 
 -- an expression whose tree is known, later on
 pub tree_later : (b later : List AExpr) → KeepsTrees b later → (n : Node) (t : Tree) → tree_at b n ≡ t → IsComplete t → tree_at later n ≡ t
@@ -54,11 +65,6 @@ as_many_columns (n ∷ ns) = ap suc (as_many_columns ns)
 -- what isn't elementwise goes by the rule of its kind
 pub arm_rule : (at : ℕ) (input : Stream) (e t : Tree) → e ≡ t → is_elementwise e ≡ false → lower at input e ≡ apart_rule at input t
 arm_rule at input e t is apart = lower_apart at input e apart ∙ ap (apart_rule at input) is
-
-pub arm_room : (at : ℕ) (input : Stream) (e t : Tree) → e ≡ t → is_elementwise e ≡ false → (a : List AExpr) (l : Lowering) (c : Gathered) → HasRoom a (λ f. (lower at input e (call_of f l c)).state) → HasRoom a (λ f. (apart_rule at input t (call_of f l c)).state)
-arm_room at input e t is apart a l c room later keeps =
-    let P : (Call → Call) → Type 0 = λ r. length (r (call_of (tree_at later) l c)).state.nodes < 2 ^ 32 in
-    subst P (arm_rule at input e t is apart) (room later keeps)
 
 -- of a sort by keys, whose parts were copied
 pub sort_by_arm : (at : ℕ) (input : Stream) (f : Node → Tree) (e : Tree) (values : Node) (by ns : List Node) (d u d' u' : List Bool) → e ≡ Tree.sort_by d u (f values) (trees_of f by) → is_elementwise e ≡ false → ns ≡ by → d' ≡ d → u' ≡ u
@@ -204,17 +210,3 @@ module _ (input : Stream) (o : Node) (by : List Node) (d u : List Bool) (a a1 b 
       (λ later h. kept (tree_at later) ∙ (λ i. with_columns (made.goes_on.origin i).0 (first_name (given-names (tree_at later) i) ∷ []) (stream_of t) (state_of (tree_at later) p))) in
       given_follows (λ st. let n = keyed_sort at input d u os st in with_columns at (first_name (new_names os st) ∷ []) n.stream n.state) (λ st. Tree.column (first_name (new_names os st))) a b l q c g v column values whole
       (λ later h. tree_later b later h column (Tree.column (first_name names)) own tt ∙ ap (λ ms. Tree.column (first_name ms)) (given-names (tree_at later))) (is_column b column (first_name names) own) es er ee em
-
-  -- room for it
-  pub sort_by_columns : (c : Gathered) → HasRoom a (λ f. (sorted_by l.origin.0 input d u (as_operand l.origin.0 input (tree_at a o)) (map (as_operand l.origin.0 input) (trees_at (tree_at a) by)) (call_of f l c)).state)
-      → (f : Node → Tree) → size (with_columns p.origin.0 (first_name names ∷ []) (stream_of t) (state_of f p)).state < 2 ^ 32
-  sort_by_columns c room f =
-      let at = l.origin.0 in
-      let made = sort_by_made in
-      room_of_columns a b made.goes_on.trees p p.origin.0 (first_name names ∷ []) (stream_of t)
-      (λ g. (sorted_by l.origin.0 input d u (as_operand l.origin.0 input (tree_at a o)) (map (as_operand l.origin.0 input) (trees_at (tree_at a) by)) (call_of g l c)).state)
-      (let g = tree_at b in
-      let y = made.by_rule b (λ n h. refl) in
-      let same : size (with_columns p.origin.0 (first_name names ∷ []) (stream_of t) (state_of g p)).state ≡ size (let n = keyed_sort at input d u os (state_of g l) in with_columns at (first_name (new_names os (state_of g l)) ∷ []) n.stream n.state).state =
-      λ i. size (with_columns (made.goes_on.origin i).0 (first_name (given-names g i) ∷ []) (y i).stream (y i).state).state in
-      omega arith) room f

@@ -1,5 +1,5 @@
 -- The two public calls, put together from what their steps answer.
-use Rattle.std.proofs.Common.{◌≡◌, ℕ, zero, suc, ◌+◌, ◌^◌, ◌<◌, ◌≤◌, List, [], ◌∷◌, get_or, length, refl, sym, ap, subst, ◌∙◌, arith}
+use Rattle.std.proofs.Common.{◌≡◌, ℕ, zero, suc, ◌+◌, ◌<◌, ◌≤◌, List, [], ◌∷◌, get_or, length, refl, sym, ap, subst, ◌∙◌, arith}
 use Rattle.std.specs.Prelude.{Err, IfOk, Ok, OnOk, Result, map}
 use Rattle.std.specs.List.{AllByRecursion}
 use Rattle.pu_base.specs.declared.arena.Node.{Node}
@@ -18,12 +18,12 @@ use Rattle.ps_rules.specs.Rules.{NamedOperand, selected, together}
 use Rattle.ps_rules.specs.Slots.{Made, Stream, under}
 use Rattle.ps_fresh.specs.declared.lowering.Lowering.{Lowering}
 use Rattle.lowering_parts.specs.declared.gathered.Gathered.{Gathered}
-use Rattle.lowering_parts.specs.Gathered.{Gathers, HasRoom, Later, Makes, bundle_of, made_of, names_asked, state_of, trees_at}
+use Rattle.lowering_parts.specs.Gathered.{Gathers, Later, Makes, bundle_of, made_of, names_asked, state_of, trees_at}
 use Rattle.expr_lowering.proofs.Arms.{keys_again}
 use Rattle.expr_lowering.proofs.Following.{as_many_slots}
 use Rattle.expr_lowering.proofs.Ruled.{as_many_trees}
 use Rattle.expr_lowering.proofs.Selections.{under_whole}
-use Rattle.lowering_parts.proofs.Sizes.{exprs_add, finished_adds, select_adds, size}
+use Rattle.lowering_parts.proofs.Sizes.{exprs_add, select_adds, size}
 
 pub select_again : (at : ℕ) (input : Stream) (f : Node → Tree) (es : List ExprIR) → under (names_asked es) (map (as_operand at input) (key_trees f es)) ≡ map (λ (e : Named). (e.0, as_operand at input e.1)) (named_trees f es)
 select_again at input f [] = refl
@@ -32,31 +32,6 @@ select_again at input f (e ∷ es) = ap (λ more. (name_in e.output_name, as_ope
 pub as_many_asked : (f : Node → Tree) (es : List ExprIR) → length (names_asked es) ≡ length (key_trees f es)
 as_many_asked f [] = refl
 as_many_asked f (e ∷ es) = ap suc (as_many_asked f es)
-
--- room for a whole call, by how many nodes it may insert
-pub room_of_call : (at : ℕ) (input : Stream) (es : List Tree) (a : List AExpr) (l : Lowering) → length l.phys_sm.slots + inserts_for es < 2 ^ 32 → HasRoom a (λ f. (together at input (map (as_operand at input) es) (state_of f l)).state)
-room_of_call at input es a l room later keeps =
-    let f = tree_at later in
-    let n = as_many_slots f l.phys_sm.slots in
-    let most = (exprs_add at input es (state_of f l)).1 in
-    let ends = (finished_adds at input (together at input (map (as_operand at input) es) (state_of f l))).0 in
-    omega arith
-
-pub room_of_end : (at : ℕ) (input : Stream) (es : List Tree) (a a1 : List AExpr) (l m : Lowering) (g : Gathered) → Gathers (together at input (map (as_operand at input) es)) a a1 l m g → m.origin.0 ≡ at → length l.phys_sm.slots + inserts_for es < 2 ^ 32
-    → HasRoom a1 (λ f. (finished m.origin.0 input (bundle_of f m g)).state)
-room_of_end at input es a a1 l m g h from room later keeps =
-    let f = tree_at later in
-    let n = as_many_slots f l.phys_sm.slots in
-    let most = (exprs_add at input es (state_of f l)).1 in
-    let same : size (finished m.origin.0 input (bundle_of f m g)).state ≡ size (lower_exprs at input es (state_of f l)).state = λ i. size (finished (from i) input (h.by_rule later keeps i)).state in
-    omega arith
-
-pub room_of_select : (at : ℕ) (input : Stream) (ns : List Name) (es : List Tree) (a : List AExpr) (l : Lowering) → length ns ≡ length es → length l.phys_sm.slots + inserts_for es < 2 ^ 32 → HasRoom a (λ f. (selected at input (under ns (map (as_operand at input) es)) (state_of f l)).state)
-room_of_select at input ns es a l many room later keeps =
-    let f = tree_at later in
-    let n = as_many_slots f l.phys_sm.slots in
-    let most = (select_adds at input ns es (state_of f l) many).1 in
-    omega arith
 
 -- the stream of a call and what stands then
 pub call_made : (input : Stream) (es : List Tree) (a a1 : List AExpr) (l m p : Lowering) (g : Gathered) (s : PhysStream) → Gathers (together l.origin.0 input (map (as_operand l.origin.0 input) es)) a a1 l m g
@@ -101,18 +76,18 @@ module _ (input : Stream) (asked : List ExprIR) (nodes answers : List Node) (nam
   of_keys : Gathers (together l.origin.0 input (map (as_operand l.origin.0 input) (key_trees (tree_at a) asked))) a b l m g
   of_keys = subst (λ (es : List Tree). Gathers (together l.origin.0 input (map (as_operand l.origin.0 input) es)) a b l m g) same gathers
 
-  made_by_rule : made_of (tree_at b) p s ≡ record { state = (lower_exprs l.origin.0 input (key_trees (tree_at a) asked) (state_of (tree_at b) l)).state; stream = (lower_exprs l.origin.0 input (key_trees (tree_at a) asked) (state_of (tree_at b) l)).stream }
-  made_by_rule = call_made input (key_trees (tree_at a) asked) a b l m p g s of_keys finishes b (λ n h. refl)
+  made_by_rule : Later b (λ f. made_of f p s ≡ record { state = (lower_exprs l.origin.0 input (key_trees (tree_at a) asked) (state_of f l)).state; stream = (lower_exprs l.origin.0 input (key_trees (tree_at a) asked) (state_of f l)).stream })
+  made_by_rule = call_made input (key_trees (tree_at a) asked) a b l m p g s of_keys finishes
 
-  pub call_nodes : state_of (tree_at b) p ≡ (lower_exprs l.origin.0 input (key_trees (tree_at a) asked) (state_of (tree_at b) l)).state
-  call_nodes = ap (λ (x : Made). x.state) made_by_rule
+  pub call_nodes : Later b (λ f. state_of f p ≡ (lower_exprs l.origin.0 input (key_trees (tree_at a) asked) (state_of f l)).state)
+  call_nodes later keeps = ap (λ (x : Made). x.state) (made_by_rule later keeps)
 
-  pub call_stream : stream_of s ≡ (lower_exprs l.origin.0 input (key_trees (tree_at a) asked) (state_of (tree_at b) l)).stream
-  call_stream = ap (λ (x : Made). x.stream) made_by_rule
+  pub call_stream : Later b (λ f. stream_of s ≡ (lower_exprs l.origin.0 input (key_trees (tree_at a) asked) (state_of f l)).stream)
+  call_stream later keeps = ap (λ (x : Made). x.stream) (made_by_rule later keeps)
 
-  pub call_exprs : named_trees (tree_at b) named ≡ under (names_asked asked) (lower_exprs l.origin.0 input (key_trees (tree_at a) asked) (state_of (tree_at b) l)).exprs
-  call_exprs =
-      under-names (tree_at b) ∙ ap (λ (ns : List Node). under (names_asked asked) (trees_at (tree_at b) ns)) answered ∙ ap (λ (x : Bundle). under (names_asked asked) x.exprs) (of_keys.by_rule b (λ n h. refl))
+  pub call_exprs : Later b (λ f. named_trees f named ≡ under (names_asked asked) (lower_exprs l.origin.0 input (key_trees (tree_at a) asked) (state_of f l)).exprs)
+  call_exprs later keeps =
+      under-names (tree_at later) ∙ ap (λ (ns : List Node). under (names_asked asked) (trees_at (tree_at later) ns)) answered ∙ ap (λ (x : Bundle). under (names_asked asked) x.exprs) (of_keys.by_rule later keeps)
 
   pub call_new_exprs : AllByRecursion IsComplete (key_trees (tree_at b) named)
   call_new_exprs =
@@ -120,7 +95,7 @@ module _ (input : Stream) (asked : List ExprIR) (nodes answers : List Node) (nam
       subst (AllByRecursion IsComplete) (keys_again (tree_at b) named) (under_whole (tree_at b) (names_asked asked) answers named (under-names (tree_at b)) whole)
 
   pub call_adds : length p.phys_sm.slots ≤ length l.phys_sm.slots + inserts_for (key_trees (tree_at a) asked)
-  call_adds = call_inserts l.origin.0 input (key_trees (tree_at a) asked) (tree_at b) l p call_nodes
+  call_adds = call_inserts l.origin.0 input (key_trees (tree_at a) asked) (tree_at b) l p (call_nodes b (λ n h. refl))
 
 -- what build_select_stream answers
 module _ (input : Stream) (asked : List ExprIR) (nodes : List Node) (names : List Name) (a b : List AExpr) (l p : Lowering) (same : trees_at (tree_at a) nodes ≡ key_trees (tree_at a) asked) (under-names : names ≡ names_asked asked) where
@@ -133,13 +108,9 @@ module _ (input : Stream) (asked : List ExprIR) (nodes : List Node) (names : Lis
   abbrev pub SelectMakes : PhysStream → Type 0
   SelectMakes = Makes (selected l.origin.0 input (under names (map (as_operand l.origin.0 input) (trees_at (tree_at a) nodes)))) a b l p
 
-  pub select_nodes : (r : Result PhysStream PolarsError) → IfOk r SelectMakes → OnOk r (state_of (tree_at b) p ≡ (select_stream l.origin.0 input (named_trees (tree_at a) asked) (state_of (tree_at b) l)).state)
-  select_nodes (Ok s) h = ap (λ (x : Made). x.state) ((of_select s h).by_rule b (λ n k. refl))
-  select_nodes (Err x) h = tt
-
-  pub select_made : (r : Result PhysStream PolarsError) → IfOk r SelectMakes → IfOk r (λ s. stream_of s ≡ (select_stream l.origin.0 input (named_trees (tree_at a) asked) (state_of (tree_at b) l)).stream)
-  select_made (Ok s) h = ap (λ (x : Made). x.stream) ((of_select s h).by_rule b (λ n k. refl))
-  select_made (Err x) h = tt
+  pub select_makes : (r : Result PhysStream PolarsError) → IfOk r SelectMakes → IfOk r (Makes (select_stream l.origin.0 input (named_trees (tree_at a) asked)) a b l p)
+  select_makes (Ok s) h = of_select s h
+  select_makes (Err x) h = tt
 
   pub select_inserted : (r : Result PhysStream PolarsError) → IfOk r SelectMakes → OnOk r (length p.phys_sm.slots ≤ length l.phys_sm.slots + inserts_for (key_trees (tree_at a) asked))
   select_inserted (Ok s) h =
@@ -150,9 +121,3 @@ module _ (input : Stream) (asked : List ExprIR) (nodes : List Node) (names : Lis
 -- what build_select_stream asks of the select
 pub asked_count : (f : Node → Tree) (asked : List ExprIR) (nodes : List Node) (names : List Name) → trees_at f nodes ≡ key_trees f asked → names ≡ names_asked asked → length names ≡ length nodes
 asked_count f asked nodes names same under-names = ap length under-names ∙ as_many_asked f asked ∙ ap length (sym same) ∙ as_many_trees f nodes
-
-pub asked_room : (input : Stream) (asked : List ExprIR) (nodes : List Node) (names : List Name) (a : List AExpr) (l : Lowering) → trees_at (tree_at a) nodes ≡ key_trees (tree_at a) asked → names ≡ names_asked asked
-    → length l.phys_sm.slots + inserts_for (key_trees (tree_at a) asked) < 2 ^ 32 → HasRoom a (λ f. (selected l.origin.0 input (under names (map (as_operand l.origin.0 input) (trees_at (tree_at a) nodes))) (state_of f l)).state)
-asked_room input asked nodes names a l same under-names room =
-    room_of_select l.origin.0 input names (trees_at (tree_at a) nodes) a l (asked_count (tree_at a) asked nodes names same under-names ∙ sym (as_many_trees (tree_at a) nodes))
-    (subst (λ (es : List Tree). length l.phys_sm.slots + inserts_for es < 2 ^ 32) (sym same) room)

@@ -1,5 +1,5 @@
 -- What a function answers by the answer of its last call, which may be an error.
-use Rattle.std.proofs.Common.{◌≡◌, ℕ, ◌^◌, ◌<◌, cond, List, [], true, false, length, refl, sym, ap, subst, ◌∙◌}
+use Rattle.std.proofs.Common.{◌≡◌, ℕ, cond, List, [], true, false, length, refl, sym, ap, ◌∙◌}
 use Rattle.std.specs.Prelude.{Err, IfOk, Ok, OnOk, Result, map}
 use Rattle.std.specs.List.{AllByRecursion}
 use Rattle.pu_base.specs.declared.arena.Node.{Node}
@@ -21,16 +21,12 @@ use Rattle.ps_rules.specs.Slots.{Stream, over_selected, under, with_columns, wit
 use Rattle.ps_fresh.specs.Known.{Remembers}
 use Rattle.ps_fresh.specs.declared.lowering.Lowering.{Lowering}
 use Rattle.lowering_parts.specs.declared.gathered.Gathered.{Gathered}
-use Rattle.lowering_parts.specs.Gathered.{AreWhole, Begins, Follows, Gathers, HasRoom, Later, Makes, bundle_of, call_of, made_of, state_of, trees_at}
+use Rattle.lowering_parts.specs.Gathered.{AreWhole, Begins, Follows, Gathers, Later, Makes, bundle_of, call_of, made_of, state_of, trees_at}
 use Rattle.lowering_parts.specs.Operations.{aggregation_of, are_own}
 use Rattle.lowering_parts.specs.Reads.{aggregate_operand}
 use Rattle.expr_lowering.specs.Operands.{is_reduced}
 use Rattle.expr_lowering.proofs.Following.{follows_same}
 use Rattle.expr_lowering.proofs.Selections.{select_apart_makes, select_computed_makes, select_own_makes, together_apart_gathers, together_over_gathers}
-
--- one rule for another
-pub same_room : (r s : Call → Call) → r ≡ s → (a : List AExpr) (l : Lowering) (c : Gathered) → HasRoom a (λ f. (r (call_of f l c)).state) → HasRoom a (λ f. (s (call_of f l c)).state)
-same_room r s e a l c room later keeps = subst (λ (q : Call → Call). length (q (call_of (tree_at later) l c)).state.nodes < 2 ^ 32) e (room later keeps)
 
 pub same_follows : (r s : Call → Call) → r ≡ s → (x : Result (Unit {0}) PolarsError) (a b : List AExpr) (l m : Lowering) (c d : Gathered) → OnOk x (Follows r a b l m c d) → OnOk x (Follows s a b l m c d)
 same_follows r s e (Ok x) a b l m c d h = follows_same r s e a b l m c d h

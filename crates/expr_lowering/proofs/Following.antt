@@ -1,5 +1,5 @@
 -- How what follows a rule is put together: over an arena that grew, and one step after the other.
-use Rattle.std.proofs.Common.{◌≡◌, suc, ◌+◌, ◌-◌, ◌≤◌, List, [], ◌∷◌, ◌++◌, length, refl, sym, ap, subst, ◌∙◌, arith}
+use Rattle.std.proofs.Common.{◌≡◌, suc, ◌+◌, ◌-◌, List, [], ◌∷◌, ◌++◌, length, refl, sym, ap, subst, ◌∙◌}
 use Rattle.std.specs.Prelude.{Err, Ok, OnErr, OnOk, Result, Option}
 use Rattle.std.specs.List.{AllByRecursion}
 use Rattle.pu_base.specs.declared.arena.Node.{Node}
@@ -20,7 +20,7 @@ use Rattle.ps_rules.specs.Slots.{Made, State, Stream, added, all_added, over_sam
 use Rattle.ps_fresh.specs.Known.{Remembers}
 use Rattle.ps_fresh.specs.declared.lowering.Lowering.{Lowering}
 use Rattle.lowering_parts.specs.declared.gathered.Gathered.{Gathered}
-use Rattle.lowering_parts.specs.Gathered.{AreWhole, Begins, Follows, Gathers, GoesOn, HasRoom, KeepsNames, Later, Makes, call_of, made_of, state_of, trees_at}
+use Rattle.lowering_parts.specs.Gathered.{AreWhole, Begins, Follows, Gathers, GoesOn, KeepsNames, Later, Makes, call_of, made_of, state_of, trees_at}
 use Rattle.lowering_parts.proofs.Going.{begins_same, goes_added, goes_built, goes_knowing, goes_named, goes_nowhere, goes_then}
 use Rattle.lowering_parts.proofs.Grown.{kept-then}
 
@@ -176,7 +176,3 @@ bundle_follows rule operator a b e l m c d g n h entries keeps whole is own es e
 pub as_many_slots : (f : Node → Tree) (slots : List (Option PhysNode)) → length (nodes_of f slots) ≡ length slots
 as_many_slots f [] = refl
 as_many_slots f (o ∷ slots) = ap suc (as_many_slots f slots)
-
--- there is room for less than a rule makes
-pub room_before : (a : List AExpr) (x y : (Node → Tree) → State) → ((f : Node → Tree) → length (x f).nodes ≤ length (y f).nodes) → HasRoom a y → HasRoom a x
-room_before a x y le room later keeps = let few = le (tree_at later) in let r = room later keeps in omega arith

@@ -3,8 +3,6 @@ pub mod Ruled
 pub mod Arms
 pub mod Reductions
 pub mod Selections
-pub mod Rooms
+pub mod EachLemmas
 pub mod CallLemmas
-pub mod Least
-pub mod Steps
 pub mod Ends

@@ -1,5 +1,5 @@
 //! The lowering of expressions and of selects over a stream.
-ghost use Rattle.std.specs.Prelude.{◌≡◌, ◌+◌, ◌<◌, ◌≤◌, ◌^◌, Err, IfOk, OnErr, OnOk, length};
+ghost use Rattle.std.specs.Prelude.{◌≡◌, ◌+◌, ◌<◌, ◌≤◌, Err, IfOk, OnErr, OnOk, length};
 ghost use Rattle.std.specs.List.{AllByRecursion};
 ghost use Rattle.ps_frame.specs.Trees.{IsComplete, Tree, tree_at};
 ghost use Rattle.ps_frame.specs.declared.refusal.PolarsError.{PolarsError};
@@ -9,7 +9,7 @@ ghost use Rattle.ps_phys.specs.Shown.{stream_of};
 ghost use Rattle.ps_rules.specs.Counted.{inserts_for};
 ghost use Rattle.ps_rules.specs.Lowered.{lower_exprs as lowered_exprs, select_stream};
 ghost use Rattle.ps_rules.specs.Slots.{under};
-ghost use Rattle.lowering_parts.specs.Gathered.{GoesOn, names_asked, state_of, trees_at};
+ghost use Rattle.lowering_parts.specs.Gathered.{GoesOn, Later, Makes, names_asked, state_of, trees_at};
 ghost use Rattle.pu_base.specs.declared.arena.Node.{Node as ANode};
 
 use crate::lower::{select, together};
@@ -27,8 +27,8 @@ use std::alloc::Global;
 
 /// A stream, and expressions over it that stand for these over the input; they are elementwise, under the asked names.
 ///
-/// Takes so many nodes at most as `inserts_for` says, for which there must be room. What stood in the arena and in the
-/// lowering stands after every answer. Fails only for want of memory; nodes, names and expressions may then have been added.
+/// Makes at most as many nodes as `inserts_for` says. What stood in the arena and in the lowering stands after every answer.
+/// Fails only for want of memory; nodes, names and expressions may then have been added.
 pub fn lower_exprs(
     alloc: Global,
     expr_arena: &mut Arena<AExpr>,
@@ -38,10 +38,9 @@ pub fn lower_exprs(
 ) -> PolarsResult<(PhysStream, Vec<ExprIR>)>
     requires whole { AllByRecursion IsComplete (key_trees (tree_at expr_arena.old.items) exprs.now) }
     requires cache { Remembers expr_arena.old.items low.old.cache }
-    requires room { length low.old.phys_sm.slots + inserts_for (key_trees (tree_at expr_arena.old.items) exprs.now) < 2 ^ 32 }
-    ensures nodes { IfOk result (λ r. state_of (tree_at expr_arena.new.items) low.new ≡ (lowered_exprs low.old.origin.0 (stream_of input) (key_trees (tree_at expr_arena.old.items) exprs.now) (state_of (tree_at expr_arena.new.items) low.old)).state) }
-    ensures stream { IfOk result (λ r. stream_of r.0 ≡ (lowered_exprs low.old.origin.0 (stream_of input) (key_trees (tree_at expr_arena.old.items) exprs.now) (state_of (tree_at expr_arena.new.items) low.old)).stream) }
-    ensures exprs { IfOk result (λ r. named_trees (tree_at expr_arena.new.items) r.1.items ≡ under (names_asked exprs.now) (lowered_exprs low.old.origin.0 (stream_of input) (key_trees (tree_at expr_arena.old.items) exprs.now) (state_of (tree_at expr_arena.new.items) low.old)).exprs) }
+    ensures nodes { IfOk result (λ r. Later expr_arena.new.items (λ f. state_of f low.new ≡ (lowered_exprs low.old.origin.0 (stream_of input) (key_trees (tree_at expr_arena.old.items) exprs.now) (state_of f low.old)).state)) }
+    ensures stream { IfOk result (λ r. Later expr_arena.new.items (λ f. stream_of r.0 ≡ (lowered_exprs low.old.origin.0 (stream_of input) (key_trees (tree_at expr_arena.old.items) exprs.now) (state_of f low.old)).stream)) }
+    ensures exprs { IfOk result (λ r. Later expr_arena.new.items (λ f. named_trees f r.1.items ≡ under (names_asked exprs.now) (lowered_exprs low.old.origin.0 (stream_of input) (key_trees (tree_at expr_arena.old.items) exprs.now) (state_of f low.old)).exprs)) }
     ensures new_exprs { IfOk result (λ r. AllByRecursion IsComplete (key_trees (tree_at expr_arena.new.items) r.1.items)) }
     ensures inserts { OnOk result (length low.new.phys_sm.slots ≤ length low.old.phys_sm.slots + inserts_for (key_trees (tree_at expr_arena.old.items) exprs.now)) }
     ensures grows { GoesOn expr_arena.old.items expr_arena.new.items low.old low.new }
@@ -56,8 +55,8 @@ pub fn lower_exprs(
 
 /// The stream of a select of these expressions under their names, which differ.
 ///
-/// Takes so many nodes at most as `inserts_for` says, for which there must be room. What stood in the arena and in the
-/// lowering stands after every answer. Fails only for want of memory; nodes, names and expressions may then have been added.
+/// Makes at most as many nodes as `inserts_for` says. What stood in the arena and in the lowering stands after every answer.
+/// Fails only for want of memory; nodes, names and expressions may then have been added.
 pub fn build_select_stream(
     alloc: Global,
     expr_arena: &mut Arena<AExpr>,
@@ -67,9 +66,7 @@ pub fn build_select_stream(
 ) -> PolarsResult<PhysStream>
     requires whole { AllByRecursion IsComplete (key_trees (tree_at expr_arena.old.items) exprs.now) }
     requires cache { Remembers expr_arena.old.items low.old.cache }
-    requires room { length low.old.phys_sm.slots + inserts_for (key_trees (tree_at expr_arena.old.items) exprs.now) < 2 ^ 32 }
-    ensures nodes { OnOk result (state_of (tree_at expr_arena.new.items) low.new ≡ (select_stream low.old.origin.0 (stream_of input) (named_trees (tree_at expr_arena.old.items) exprs.now) (state_of (tree_at expr_arena.new.items) low.old)).state) }
-    ensures stream { IfOk result (λ s. stream_of s ≡ (select_stream low.old.origin.0 (stream_of input) (named_trees (tree_at expr_arena.old.items) exprs.now) (state_of (tree_at expr_arena.new.items) low.old)).stream) }
+    ensures makes { IfOk result (Makes (select_stream low.old.origin.0 (stream_of input) (named_trees (tree_at expr_arena.old.items) exprs.now)) expr_arena.old.items expr_arena.new.items low.old low.new) }
     ensures inserts { OnOk result (length low.new.phys_sm.slots ≤ length low.old.phys_sm.slots + inserts_for (key_trees (tree_at expr_arena.old.items) exprs.now)) }
     ensures grows { GoesOn expr_arena.old.items expr_arena.new.items low.old low.new }
     ensures memory { OnErr result (result ≡ Err PolarsError.OutOfMemory) }

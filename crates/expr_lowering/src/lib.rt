@@ -2,4 +2,4 @@
 #![tactic(auto)]
 
 pub mod exprs;
-mod lower;
+pub mod lower;

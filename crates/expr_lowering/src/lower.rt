@@ -1,5 +1,5 @@
 //! What a call does at an expression: the rules, by the kind of the expression.
-ghost use Rattle.std.specs.Prelude.{◌≡◌, ◌-◌, ◌<◌, ◌^◌, ◌∷◌, [], Err, IfOk, IsFalse, None, OnErr, OnOk, length, map};
+ghost use Rattle.std.specs.Prelude.{◌≡◌, ◌-◌, ◌<◌, ◌∷◌, [], Err, IfOk, IsFalse, None, OnErr, OnOk, length, map};
 ghost use Rattle.std.specs.List.{AllByRecursion};
 ghost use Rattle.ps_frame.specs.Trees.{IsComplete, IsExpression, Tree, aggregate_tree, tree_at};
 ghost use Rattle.ps_frame.specs.Typing.{is_elementwise as is_elementwise_tree};
@@ -14,7 +14,7 @@ ghost use Rattle.ps_rules.specs.Lowered.{lower as lowered};
 ghost use Rattle.ps_rules.specs.Names.{after_fresh, fresh_name};
 ghost use Rattle.ps_rules.specs.Rules.{apart_from_input, filtered_column, first_name, first_tree, is_own_column as is_own_column_of, other_names, over_operands as operator_over, reduced_column, selected, sorted_by, sorted_column, together as gathered_together};
 ghost use Rattle.ps_rules.specs.Slots.{Stream, columns_named, under};
-ghost use Rattle.lowering_parts.specs.Gathered.{AreWhole, Begins, Follows, Gathers, GoesOn, HasRoom, Makes, call_of, state_of, trees_at};
+ghost use Rattle.lowering_parts.specs.Gathered.{AreWhole, Begins, Follows, Gathers, GoesOn, Makes, trees_at};
 ghost use Rattle.lowering_parts.specs.Operations.{aggregation_of, are_own, operation_tree};
 ghost use Rattle.expr_lowering.specs.Operands.{is_reduced as is_reduced_one, operand_at, operands_at};
 ghost use Rattle.lowering_parts.specs.Reads.{aggregate_operand};
@@ -55,7 +55,6 @@ fn lower(
     requires expr { IsExpression arena.old.items expr }
     requires cache { Remembers arena.old.items low.old.cache }
     requires whole { AreWhole arena.old.items call.old }
-    requires room { HasRoom arena.old.items (λ f. (lowered low.old.origin.0 (stream_of input) (tree_at arena.old.items expr) (call_of f low.old call.old)).state) }
     ensures follows { OnOk result (Follows (lowered low.old.origin.0 (stream_of input) (tree_at arena.old.items expr)) arena.old.items arena.new.items low.old low.new call.old call.new) }
     ensures goes_on { GoesOn arena.old.items arena.new.items low.old low.new }
     ensures memory { OnErr result (result ≡ Err PolarsError.OutOfMemory) }
@@ -81,7 +80,6 @@ fn lower_entry(
     requires apart { IsFalse (is_elementwise_tree (tree_at arena.old.items expr)) }
     requires cache { Remembers arena.old.items low.old.cache }
     requires whole { AreWhole arena.old.items call.old }
-    requires room { HasRoom arena.old.items (λ f. (lowered low.old.origin.0 (stream_of input) (tree_at arena.old.items expr) (call_of f low.old call.old)).state) }
     ensures follows { OnOk result (Follows (lowered low.old.origin.0 (stream_of input) (tree_at arena.old.items expr)) arena.old.items arena.new.items low.old low.new call.old call.new) }
     ensures goes_on { GoesOn arena.old.items arena.new.items low.old low.new }
     ensures memory { OnErr result (result ≡ Err PolarsError.OutOfMemory) }
@@ -195,7 +193,6 @@ fn lower_operands(
     requires operands { AllByRecursion IsComplete (trees_at (tree_at arena.old.items) operands.now) }
     requires cache { Remembers arena.old.items low.old.cache }
     requires whole { AreWhole arena.old.items call.old }
-    requires room { HasRoom arena.old.items (λ f. (operator_over low.old.origin.0 (stream_of input) (operation_tree operation) (operands_at low.old input arena.old.items operands.now) (call_of f low.old call.old)).state) }
     ensures follows { OnOk result (Follows (operator_over low.old.origin.0 (stream_of input) (operation_tree operation) (operands_at low.old input arena.old.items operands.now)) arena.old.items arena.new.items low.old low.new call.old call.new) }
     ensures goes_on { GoesOn arena.old.items arena.new.items low.old low.new }
     ensures memory { OnErr result (result ≡ Err PolarsError.OutOfMemory) }
@@ -224,7 +221,6 @@ fn lower_sort(
     requires expr { IsExpression arena.old.items expr }
     requires cache { Remembers arena.old.items low.old.cache }
     requires whole { AreWhole arena.old.items call.old }
-    requires room { HasRoom arena.old.items (λ f. (sorted_column low.old.origin.0 (stream_of input) descending nulls_last (operand_at low.old input arena.old.items expr) (call_of f low.old call.old)).state) }
     ensures follows { OnOk result (Follows (sorted_column low.old.origin.0 (stream_of input) descending nulls_last (operand_at low.old input arena.old.items expr)) arena.old.items arena.new.items low.old low.new call.old call.new) }
     ensures goes_on { GoesOn arena.old.items arena.new.items low.old low.new }
     ensures memory { OnErr result (result ≡ Err PolarsError.OutOfMemory) }
@@ -280,7 +276,6 @@ fn lower_sort_by(
     requires by { AllByRecursion IsComplete (trees_at (tree_at arena.old.items) by.now) }
     requires cache { Remembers arena.old.items low.old.cache }
     requires whole { AreWhole arena.old.items call.old }
-    requires room { HasRoom arena.old.items (λ f. (sorted_by low.old.origin.0 (stream_of input) options.descending options.nulls_last (operand_at low.old input arena.old.items values) (operands_at low.old input arena.old.items by.now) (call_of f low.old call.old)).state) }
     ensures follows { OnOk result (Follows (sorted_by low.old.origin.0 (stream_of input) options.descending options.nulls_last (operand_at low.old input arena.old.items values) (operands_at low.old input arena.old.items by.now)) arena.old.items arena.new.items low.old low.new call.old call.new) }
     ensures goes_on { GoesOn arena.old.items arena.new.items low.old low.new }
     ensures memory { OnErr result (result ≡ Err PolarsError.OutOfMemory) }
@@ -369,7 +364,6 @@ fn lower_filter(
     requires by { IsExpression arena.old.items by }
     requires cache { Remembers arena.old.items low.old.cache }
     requires whole { AreWhole arena.old.items call.old }
-    requires room { HasRoom arena.old.items (λ f. (filtered_column low.old.origin.0 (stream_of input) (operand_at low.old input arena.old.items values) (operand_at low.old input arena.old.items by) (call_of f low.old call.old)).state) }
     ensures follows { OnOk result (Follows (filtered_column low.old.origin.0 (stream_of input) (operand_at low.old input arena.old.items values) (operand_at low.old input arena.old.items by)) arena.old.items arena.new.items low.old low.new call.old call.new) }
     ensures goes_on { GoesOn arena.old.items arena.new.items low.old low.new }
     ensures memory { OnErr result (result ≡ Err PolarsError.OutOfMemory) }
@@ -413,7 +407,6 @@ fn lower_aggregate(
     requires tree { tree_at arena.old.items expr ≡ aggregate_tree (tree_at arena.old.items) aggregate }
     requires cache { Remembers arena.old.items low.old.cache }
     requires whole { AreWhole arena.old.items call.old }
-    requires room { HasRoom arena.old.items (λ f. (lowered low.old.origin.0 (stream_of input) (tree_at arena.old.items expr) (call_of f low.old call.old)).state) }
     ensures follows { OnOk result (Follows (lowered low.old.origin.0 (stream_of input) (tree_at arena.old.items expr)) arena.old.items arena.new.items low.old low.new call.old call.new) }
     ensures goes_on { GoesOn arena.old.items arena.new.items low.old low.new }
     ensures memory { OnErr result (result ≡ Err PolarsError.OutOfMemory) }
@@ -452,7 +445,6 @@ fn reduce(
     requires aggregate { IsComplete (aggregate_tree (tree_at arena.old.items) aggregate) }
     requires cache { Remembers arena.old.items low.old.cache }
     requires whole { AreWhole arena.old.items call.old }
-    requires room { HasRoom arena.old.items (λ f. (reduced_column low.old.origin.0 (stream_of input) (aggregation_of aggregate) (operand_at low.old input arena.old.items (aggregate_operand aggregate)) (call_of f low.old call.old)).state) }
     ensures follows { OnOk result (Follows (reduced_column low.old.origin.0 (stream_of input) (aggregation_of aggregate) (operand_at low.old input arena.old.items (aggregate_operand aggregate))) arena.old.items arena.new.items low.old low.new call.old call.new) }
     ensures goes_on { GoesOn arena.old.items arena.new.items low.old low.new }
     ensures memory { OnErr result (result ≡ Err PolarsError.OutOfMemory) }
@@ -531,7 +523,6 @@ pub fn together(
 ) -> PolarsResult<Gathered>
     requires exprs { AllByRecursion IsComplete (trees_at (tree_at arena.old.items) exprs.now) }
     requires cache { Remembers arena.old.items low.old.cache }
-    requires room { HasRoom arena.old.items (λ f. (gathered_together low.old.origin.0 (stream_of input) (operands_at low.old input arena.old.items exprs.now) (state_of f low.old)).state) }
     ensures gathers { IfOk result (Gathers (gathered_together low.old.origin.0 (stream_of input) (operands_at low.old input arena.old.items exprs.now)) arena.old.items arena.new.items low.old low.new) }
     ensures goes_on { GoesOn arena.old.items arena.new.items low.old low.new }
     ensures memory { OnErr result (result ≡ Err PolarsError.OutOfMemory) }
@@ -558,7 +549,6 @@ fn lower_each(
     requires exprs { AllByRecursion IsComplete (trees_at (tree_at arena.old.items) exprs.now) }
     requires cache { Remembers arena.old.items low.old.cache }
     requires whole { AreWhole arena.old.items call.old }
-    requires room { HasRoom arena.old.items (λ f. (each (operands_at low.old input arena.old.items exprs.now) (call_of f low.old call.old)).state) }
     ensures follows { OnOk result (Follows (each (operands_at low.old input arena.old.items exprs.now)) arena.old.items arena.new.items low.old low.new call.old call.new) }
     ensures goes_on { GoesOn arena.old.items arena.new.items low.old low.new }
     ensures memory { OnErr result (result ≡ Err PolarsError.OutOfMemory) }
@@ -600,7 +590,6 @@ fn apart(
 ) -> PolarsResult<Gathered>
     requires exprs { AllByRecursion IsComplete (trees_at (tree_at arena.old.items) exprs.now) }
     requires cache { Remembers arena.old.items low.old.cache }
-    requires room { length low.old.phys_sm.slots < 2 ^ 32 - 1 }
     ensures gathers { (input : Stream) → IfOk result (Gathers (apart_from_input low.old.origin.0 input (trees_at (tree_at arena.old.items) exprs.now)) arena.old.items arena.new.items low.old low.new) }
     ensures goes_on { GoesOn arena.old.items arena.new.items low.old low.new }
     ensures memory { OnErr result (result ≡ Err PolarsError.OutOfMemory) }
@@ -627,7 +616,6 @@ pub fn select(
     requires exprs { AllByRecursion IsComplete (trees_at (tree_at arena.old.items) exprs.now) }
     requires cache { Remembers arena.old.items low.old.cache }
     requires names { length names.items ≡ length exprs.now }
-    requires room { HasRoom arena.old.items (λ f. (selected low.old.origin.0 (stream_of input) (under names.items (operands_at low.old input arena.old.items exprs.now)) (state_of f low.old)).state) }
     ensures makes { IfOk result (Makes (selected low.old.origin.0 (stream_of input) (under names.items (operands_at low.old input arena.old.items exprs.now))) arena.old.items arena.new.items low.old low.new) }
     ensures goes_on { GoesOn arena.old.items arena.new.items low.old low.new }
     ensures memory { OnErr result (result ≡ Err PolarsError.OutOfMemory) }

@@ -1,4 +1,4 @@
--- What a call has gathered, made one stream: the room for its nodes, and what they are.
+-- What a call has gathered, made one stream.
 use Rattle.std.proofs.Common.{◌≡◌, ℕ, zero, suc, ◌-◌, ◌^◌, ◌<◌, ◌≤◌, Bool, true, false, cond, List, [], ◌∷◌, ◌++◌, length, refl, sym, ap, subst, ◌∙◌, arith, length-append}
 use Rattle.std.specs.Prelude.{None, Option, Some, nat_eq}
 use Rattle.std.specs.List.{AllByRecursion}
@@ -21,9 +21,9 @@ use Rattle.ps_rules.specs.Bundles.{gathered, mapped_stream, names_kept, one_of, 
 use Rattle.ps_rules.specs.Calls.{Bundle}
 use Rattle.ps_rules.specs.Names.{Names}
 use Rattle.ps_rules.specs.Slots.{Made, State, Stream, added, over_selected, projection, same_names, schema_at, with_columns}
-use Rattle.lowering_parts.proofs.NodeLemmas.{as_many, named_later, room_for_one}
+use Rattle.lowering_parts.proofs.NodeLemmas.{named_later}
 use Rattle.lowering_parts.proofs.StreamLemmas.{streams_last}
-use Rattle.lowering_parts.specs.Gathered.{HasRoom, bundle_of, call_of, made_of, state_of}
+use Rattle.lowering_parts.specs.Gathered.{bundle_of, call_of, made_of, state_of}
 use Rattle.lowering_parts.specs.declared.gathered.Gathered.{Gathered}
 
 pub none_added : (arena : List AExpr) → KeepsTrees arena arena
@@ -45,44 +45,6 @@ pub is_empty_when : (f : Node → Tree) (es : List ExprIR) (b : Bool) → b ≡ 
 is_empty_when f [] b h = sym h
 is_empty_when f (e ∷ es) b h = sym (h ∙ eqb-suc-zero (length es))
 
--- How many nodes there are doesn't depend on the trees of expressions.
-after_streams : List PhysStream → ℕ → ℕ
-after_streams [] k = suc k
-after_streams (s ∷ []) k = k
-after_streams (s ∷ t ∷ ss) k = suc k
-
-one_more : (f : Node → Tree) (slots : List (Option PhysNode)) (p : PhysicalNode) → length (nodes_of f slots ++ p ∷ []) ≡ suc (length slots)
-one_more f slots p = let e = as_many f slots in let l = length-append (nodes_of f slots) (p ∷ []) in omega arith
-
-streams_size : (f : Node → Tree) (slots : List (Option PhysNode)) (names : Names) (at : ℕ) (i : Stream) (ss : List PhysStream)
-    → length (one_stream at i (streams_of ss) (record { nodes = nodes_of f slots; names = names })).state.nodes ≡ after_streams ss (length slots)
-unfolding after_streams
-streams_size f slots names at i [] = one_more f slots _
-streams_size f slots names at i (s ∷ []) = as_many f slots
-streams_size f slots names at i (s ∷ t ∷ ss) = one_more f slots _
-
-same_schema : (f g : Node → Tree) (slots : List (Option PhysNode)) (n port : ℕ) → schema_at (nodes_of f slots) (n, port) ≡ schema_at (nodes_of g slots) (n, port)
-same_schema f g [] n port = refl
-same_schema f g (None ∷ slots) zero port = refl
-same_schema f g (Some p ∷ slots) zero port = refl
-same_schema f g (o ∷ slots) (suc n) port = same_schema f g slots n port
-
-columns_size : (f : Node → Tree) (slots : List (Option PhysNode)) (names : Names) (at : ℕ) (ns : List Name) (i : Stream)
-    → length (with_columns at ns i (record { nodes = nodes_of f slots; names = names })).state.nodes ≡ cond (same_names ns (names_of (schema_at (nodes_of f slots) i))) (length slots) (suc (length slots))
-columns_size f slots names at ns i = by (same_names ns (names_of (schema_at (nodes_of f slots) i)))
-  where
-    by : (b : Bool) → length (cond {A = Made} b (record { state = record { nodes = nodes_of f slots; names = names }; stream = i }) (projection at ns i (record { nodes = nodes_of f slots; names = names }))).state.nodes ≡ cond b (length slots) (suc (length slots))
-    by true = as_many f slots
-    by false = one_more f slots _
-
-columns_as : (f g : Node → Tree) (slots : List (Option PhysNode)) (names : Names) (at : ℕ) (ns : List Name) (i : Stream)
-    → length (with_columns at ns i (record { nodes = nodes_of f slots; names = names })).state.nodes ≡ length (with_columns at ns i (record { nodes = nodes_of g slots; names = names })).state.nodes
-columns_as f g slots names at ns i =
-    columns_size f slots names at ns i ∙ ap (λ (s : Fields). cond (same_names ns (names_of s)) (length slots) (suc (length slots))) (same_schema f g slots i.0 i.1) ∙ sym (columns_size g slots names at ns i)
-
-fits_before : (nodes : List PhysicalNode) (p : PhysicalNode) → length (nodes ++ p ∷ []) < 2 ^ 32 → length nodes < 2 ^ 32
-fits_before nodes p h = let l = length-append nodes (p ∷ []) in omega arith
-
 -- one map over the columns that its expressions read
 module _ (arena : List AExpr) (low low' : Lowering) (input columns : PhysStream) (es : List ExprIR) (ns : List Name) (schema : Fields)
     (below : (f : Node → Tree) → schema ≡ schema_at (nodes_of f low.phys_sm.slots) (stream_of input)) (read : ns ≡ names_kept (named_trees (tree_at arena) es) schema) where
@@ -102,25 +64,14 @@ module _ (arena : List AExpr) (low low' : Lowering) (input columns : PhysStream)
   mapped_as : (later : List AExpr) → KeepsTrees arena later → AllByRecursion IsComplete (exprs_of (named_trees (tree_at arena) es)) → Over later (Below later) ≡ At later
   mapped_as later keeps whole = ap (λ names. Over later (with_columns low.origin.0 names (stream_of input) (state_of (tree_at later) low))) (names_as later keeps whole)
 
-  module _ (whole : AllByRecursion IsComplete (exprs_of (named_trees (tree_at arena) es))) where
-    pub room_for_columns : HasRoom arena (λ f. (mapped_stream low.origin.0 (stream_of input) (named_trees f es) (state_of f low)).state)
-        → (f : Node → Tree) → length (with_columns low.origin.0 ns (stream_of input) (state_of f low)).state.nodes < 2 ^ 32
-    room_for_columns room f =
-        let h : length (Over arena (Below arena)).state.nodes < 2 ^ 32 = subst (λ (m : Made). length m.state.nodes < 2 ^ 32) (sym (mapped_as arena (none_added arena) whole)) (room arena (none_added arena)) in
-        subst (λ (n : ℕ). n < 2 ^ 32) (columns_as (tree_at arena) f low.phys_sm.slots low.names low.origin.0 ns (stream_of input)) (fits_before (Below arena).state.nodes _ h)
-
-    module _ (made : (f : Node → Tree) → made_of f low' columns ≡ with_columns low.origin.0 ns (stream_of input) (state_of f low)) where
-      pub room_for_map : HasRoom arena (λ f. (mapped_stream low.origin.0 (stream_of input) (named_trees f es) (state_of f low)).state) → length low'.phys_sm.slots < 2 ^ 32 - 1
-      room_for_map room =
-          room_for_one (tree_at arena) low'.phys_sm.slots _
-          (subst (λ (m : Made). length m.state.nodes < 2 ^ 32) (sym (ap (λ (k : Made). Over arena k) (made (tree_at arena)) ∙ mapped_as arena (none_added arena) whole)) (room arena (none_added arena)))
-
-      pub map_made : (later : List AExpr) → KeepsTrees arena later → (m : Made) → low'.origin.0 ≡ low.origin.0
-          → m ≡ over_selected low'.origin.0 (in_memory_map (select (named_trees (tree_at later) es))) (named_trees (tree_at later) es) (stream_of columns) (state_of (tree_at later) low')
-          → m ≡ mapped_stream low.origin.0 (stream_of input) (named_trees (tree_at later) es) (state_of (tree_at later) low)
-      map_made later keeps m same e =
-          e ∙ ap (λ at. over_selected at (in_memory_map (select (named_trees (tree_at later) es))) (named_trees (tree_at later) es) (stream_of columns) (state_of (tree_at later) low')) same ∙ ap (λ (k : Made). Over later k) (made (tree_at later))
-          ∙ mapped_as later keeps whole
+  module _ (whole : AllByRecursion IsComplete (exprs_of (named_trees (tree_at arena) es)))
+      (made : (f : Node → Tree) → made_of f low' columns ≡ with_columns low.origin.0 ns (stream_of input) (state_of f low)) where
+    pub map_made : (later : List AExpr) → KeepsTrees arena later → (m : Made) → low'.origin.0 ≡ low.origin.0
+        → m ≡ over_selected low'.origin.0 (in_memory_map (select (named_trees (tree_at later) es))) (named_trees (tree_at later) es) (stream_of columns) (state_of (tree_at later) low')
+        → m ≡ mapped_stream low.origin.0 (stream_of input) (named_trees (tree_at later) es) (state_of (tree_at later) low)
+    map_made later keeps m same e =
+        e ∙ ap (λ at. over_selected at (in_memory_map (select (named_trees (tree_at later) es))) (named_trees (tree_at later) es) (stream_of columns) (state_of (tree_at later) low')) same ∙ ap (λ (k : Made). Over later k) (made (tree_at later))
+        ∙ mapped_as later keeps whole
 
 -- the map, after the other streams
 module _ (at : ℕ) (input : Stream) (f : Node → Tree) (low : Lowering) (call : Gathered) (b : Bool) (is : b ≡ nat_eq (length call.mapped.items) 0) where
@@ -135,9 +86,6 @@ module _ (at : ℕ) (input : Stream) (f : Node → Tree) (low : Lowering) (call 
 
   pub gathered_none : b ≡ true → bundle_of f low call ≡ gathered at input (call_of f low call)
   gathered_none e = chosen e
-
-  pub room_for_gathered : b ≡ false → length (gathered at input (call_of f low call)).state.nodes < 2 ^ 32 → length (mapped_stream at input (named_trees f call.mapped.items) (state_of f low)).state.nodes < 2 ^ 32
-  room_for_gathered e h = subst (λ (k : Bundle). length k.state.nodes < 2 ^ 32) (sym (chosen_map e)) h
 
   pub gathered_map : b ≡ false → (low' : Lowering) (s : PhysStream) (streams : List PhysStream) → made_of f low' s ≡ mapped_stream at input (named_trees f call.mapped.items) (state_of f low) → streams_of streams ≡ added (stream_of s) (streams_of call.streams)
       → record { state = state_of f low'; streams = streams_of streams; reduced = named_trees f call.reduced.items; exprs = (call_of f low call).exprs } ≡ gathered at input (call_of f low call)
@@ -157,29 +105,6 @@ module _ (at : ℕ) (input : Stream) (f : Node → Tree) (low low' : Lowering) (
   reduce_made m e =
       e ∙ (λ i. one_stream (same i) input ((ap streams_of last ∙ streams_last ss one) i) (state_of f low')) ∙ ap (λ (k : Made). one_stream at input (streams_of ss ++ k.stream ∷ []) k.state) made
 
-  pub room_after_reduce : length (with_reduce at input (streams_of ss) (named_trees f es) (state_of f low)).state.nodes < 2 ^ 32 → (g : Node → Tree) (i : Stream) → length (one_stream low'.origin.0 i (streams_of streams) (state_of g low')).state.nodes < 2 ^ 32
-  room_after_reduce h g i =
-      let e = streams_size g low'.phys_sm.slots low'.names low'.origin.0 i streams ∙ sym (streams_size f low'.phys_sm.slots low'.names low'.origin.0 input streams) ∙ ap (λ (m : Made). length m.state.nodes) (reduce_made _ refl) in
-      subst (λ (n : ℕ). n < 2 ^ 32) (sym e) h
-
--- the streams only come after the reduce
-one_behind : (nodes : List PhysicalNode) (p : PhysicalNode) → length nodes ≤ length (nodes ++ p ∷ [])
-one_behind nodes p = let l = length-append nodes (p ∷ []) in omega arith
-
-no_fewer : (at : ℕ) (i : Stream) (ss : List Stream) (s : State) → length s.nodes ≤ length (one_stream at i ss s).state.nodes
-no_fewer at i [] s = one_behind s.nodes _
-no_fewer at i (t ∷ []) s = omega arith
-no_fewer at i (t ∷ u ∷ ss) s = one_behind s.nodes _
-
-pub room_for_reduce : (at : ℕ) (i : Stream) (f : Node → Tree) (low : Lowering) (ss : List Stream) (es : List Named) → length (with_reduce at i ss es (state_of f low)).state.nodes < 2 ^ 32 → length low.phys_sm.slots < 2 ^ 32 - 1
-room_for_reduce at i f low ss es h =
-    let m = over_selected at (reduce es) es i (state_of f low) in
-    let k = no_fewer at i (ss ++ m.stream ∷ []) m.state in
-    room_for_one f low.phys_sm.slots _ (fits m.state.nodes (with_reduce at i ss es (state_of f low)).state.nodes k h)
-  where
-    fits : {A : Type 0} (xs ys : List A) → length xs ≤ length ys → length ys < 2 ^ 32 → length xs < 2 ^ 32
-    fits xs ys k h = omega arith
-
 -- a reduce where there is something to reduce
 module _ (at : ℕ) (input : Stream) (f : Node → Tree) (low : Lowering) (ss : List PhysStream) (es : List ExprIR) (b : Bool) (is : b ≡ nat_eq (length es) 0) where
   abbrev OneOf : Bool → Made
@@ -196,11 +121,3 @@ module _ (at : ℕ) (input : Stream) (f : Node → Tree) (low : Lowering) (ss : 
 
   pub made_of_some : b ≡ false → (m : Made) → m ≡ with_reduce at input (streams_of ss) (named_trees f es) (state_of f low) → m ≡ one_of at input (streams_of ss) (named_trees f es) (state_of f low)
   made_of_some e m w = w ∙ one_of_some e
-
-  pub room_of_none : b ≡ true → length (one_of at input (streams_of ss) (named_trees f es) (state_of f low)).state.nodes < 2 ^ 32 → (g : Node → Tree) (i : Stream) → length (one_stream at i (streams_of ss) (state_of g low)).state.nodes < 2 ^ 32
-  room_of_none e h g i =
-      let w = streams_size g low.phys_sm.slots low.names at i ss ∙ sym (streams_size f low.phys_sm.slots low.names at input ss) ∙ ap (λ (m : Made). length m.state.nodes) (one_of_none e) in
-      subst (λ (n : ℕ). n < 2 ^ 32) (sym w) h
-
-  pub room_of_some : b ≡ false → length (one_of at input (streams_of ss) (named_trees f es) (state_of f low)).state.nodes < 2 ^ 32 → length (with_reduce at input (streams_of ss) (named_trees f es) (state_of f low)).state.nodes < 2 ^ 32
-  room_of_some e h = subst (λ (m : Made). length m.state.nodes < 2 ^ 32) (sym (one_of_some e)) h

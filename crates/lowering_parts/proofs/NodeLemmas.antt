@@ -78,23 +78,6 @@ pub as_many : (f : Node → Tree) (slots : List (Option PhysNode)) → length (n
 as_many f [] = refl
 as_many f (o ∷ slots) = ap suc (as_many f slots)
 
--- where a rule adds a node, there is room for it
-pub room_for_one : (f : Node → Tree) (slots : List (Option PhysNode)) (p : PhysicalNode) → length (nodes_of f slots ++ p ∷ []) < 2 ^ 32 → length slots < 2 ^ 32 - 1
-room_for_one f slots p h = let e = as_many f slots in let l = length-append (nodes_of f slots) (p ∷ []) in omega arith
-
-pub room_of_columns : (f : Node → Tree) (slots : List (Option PhysNode)) (names : Names) (at : ℕ) (ns : List Name) (i : Stream) → false ≡ same_names ns (names_of (schema_at (nodes_of f slots) i))
-    → length (with_columns at ns i (record { nodes = nodes_of f slots; names = names })).state.nodes < 2 ^ 32 → length slots < 2 ^ 32 - 1
-room_of_columns f slots names at ns i e h =
-    let s : State = record { nodes = nodes_of f slots; names = names } in
-    let P : Bool → Type 0 = λ b. length (cond b (record { state = s; stream = i }) (projection at ns i s)).state.nodes < 2 ^ 32 in
-    room_for_one f slots _ (subst P (sym e) h)
-
-pub room_of_streams : (f : Node → Tree) (slots : List (Option PhysNode)) (names : Names) (at : ℕ) (input : Stream) (ss : List PhysStream) → only_stream ss ≡ None
-    → length (one_stream at input (streams_of ss) (record { nodes = nodes_of f slots; names = names })).state.nodes < 2 ^ 32 → length slots < 2 ^ 32 - 1
-room_of_streams f slots names at input [] e h = room_for_one f slots _ h
-room_of_streams f slots names at input (s ∷ []) e h = cc
-room_of_streams f slots names at input (s ∷ t ∷ ss) e h = room_for_one f slots _ h
-
 pub several : (at : ℕ) (input : Stream) (ss : List PhysStream) (s : State) → only_stream ss ≡ None → one_stream at input (streams_of ss) s ≡ zip_of at input (streams_of ss) s
 several at input [] s e = refl
 several at input (x ∷ []) s e = cc

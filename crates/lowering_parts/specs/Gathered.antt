@@ -1,5 +1,5 @@
 -- What a lowering has made, and what a call of it has gathered, as the rules see them.
-use Rattle.std.specs.Prelude.{◌≡◌, ◌<◌, ◌^◌, List, map, length, take}
+use Rattle.std.specs.Prelude.{◌≡◌, List, map, length, take}
 use Rattle.pu_base.specs.declared.arena.Node.{Node}
 use Rattle.std.specs.List.{AllByRecursion}
 use Rattle.ps_frame.specs.Trees.{IsComplete, Tree, tree_at}
@@ -70,10 +70,6 @@ pub record GoesOn (arena arena' : List AExpr) (low low' : Lowering) : Type 0 whe
   pub names : KeepsNames low.names low'.names
   pub origin : low'.origin ≡ low.origin
   pub cache : Remembers arena' low'.cache
-
--- a rule leaves few enough nodes for the slot map, whatever is added to the arena
-abbrev pub HasRoom : List AExpr → ((Node → Tree) → State) → Type 0
-HasRoom arena made = Later arena (λ f. length (made f).nodes < 2 ^ 32)
 
 -- a call goes on as a rule says
 pub record Follows (rule : Call → Call) (arena arena' : List AExpr) (low low' : Lowering) (call call' : Gathered) : Type 0 where

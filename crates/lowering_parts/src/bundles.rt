@@ -7,7 +7,7 @@ ghost use Rattle.ps_frame.specs.declared.refusal.PolarsError.{PolarsError};
 ghost use Rattle.ps_meaning.specs.Steps.{exprs_of, named_trees};
 ghost use Rattle.ps_phys.specs.Shown.{stream_of, streams_of};
 ghost use Rattle.ps_rules.specs.Bundles.{finished, gathered as gathered_by, is_stream_alone, mapped_stream as map_of, one_of as one_of_by, with_reduce as with_reduce_by};
-ghost use Rattle.lowering_parts.specs.Gathered.{AreWhole, Begins, HasRoom, Later, bundle_of, call_of, made_of, state_of};
+ghost use Rattle.lowering_parts.specs.Gathered.{AreWhole, Begins, Later, bundle_of, call_of, made_of, state_of};
 
 use crate::gathered::Gathered;
 use crate::nodes::{Selection, columns_of, one_of_all, over_selection, schema_of};
@@ -31,7 +31,6 @@ pub fn gather(
     call: Gathered,
 ) -> PolarsResult<Gathered>
     requires whole { AreWhole arena.now.items call }
-    requires room { HasRoom arena.now.items (λ f. (gathered_by low.old.origin.0 (stream_of input) (call_of f low.old call)).state) }
     ensures gathered { Later arena.now.items (λ f. IfOk result (λ b. bundle_of f low.new b ≡ gathered_by low.old.origin.0 (stream_of input) (call_of f low.old call))) }
     ensures whole { IfOk result (AreWhole arena.now.items) }
     ensures nodes { Begins low.old.phys_sm.slots low.new.phys_sm.slots }
@@ -66,7 +65,6 @@ fn map_over(
     mapped: Vec<ExprIR>,
 ) -> PolarsResult<PhysStream>
     requires whole { AllByRecursion IsComplete (exprs_of (named_trees (tree_at arena.now.items) mapped.items)) }
-    requires room { HasRoom arena.now.items (λ f. (map_of low.old.origin.0 (stream_of input) (named_trees f mapped.items) (state_of f low.old)).state) }
     ensures made { Later arena.now.items (λ f. IfOk result (λ s. made_of f low.new s ≡ map_of low.old.origin.0 (stream_of input) (named_trees f mapped.items) (state_of f low.old))) }
     ensures nodes { Begins low.old.phys_sm.slots low.new.phys_sm.slots }
     ensures others { low.new ≡ record low.old { phys_sm = low.new.phys_sm } }
@@ -90,7 +88,6 @@ pub fn finish(
     bundle: Gathered,
 ) -> PolarsResult<(PhysStream, Vec<Node>)>
     requires whole { AreWhole arena.now.items bundle }
-    requires room { HasRoom arena.now.items (λ f. (finished low.old.origin.0 (stream_of input) (bundle_of f low.old bundle)).state) }
     ensures made { Later arena.now.items (λ f. IfOk result (λ r. made_of f low.new r.0 ≡ record { state = (finished low.old.origin.0 (stream_of input) (bundle_of f low.old bundle)).state; stream = (finished low.old.origin.0 (stream_of input) (bundle_of f low.old bundle)).stream })) }
     ensures exprs { IfOk result (λ r. r.1.items ≡ bundle.exprs.items) }
     ensures nodes { Begins low.old.phys_sm.slots low.new.phys_sm.slots }
@@ -117,7 +114,6 @@ fn one_of(
     reduced: Vec<ExprIR>,
 ) -> PolarsResult<PhysStream>
     requires whole { AllByRecursion IsComplete (exprs_of (named_trees (tree_at arena.now.items) reduced.items)) }
-    requires room { HasRoom arena.now.items (λ f. (one_of_by low.old.origin.0 (stream_of input) (streams_of streams.items) (named_trees f reduced.items) (state_of f low.old)).state) }
     ensures made { Later arena.now.items (λ f. IfOk result (λ s. made_of f low.new s ≡ one_of_by low.old.origin.0 (stream_of input) (streams_of streams.items) (named_trees f reduced.items) (state_of f low.old))) }
     ensures nodes { Begins low.old.phys_sm.slots low.new.phys_sm.slots }
     ensures others { low.new ≡ record low.old { phys_sm = low.new.phys_sm } }
@@ -141,7 +137,6 @@ fn with_reduce(
     reduced: Vec<ExprIR>,
 ) -> PolarsResult<PhysStream>
     requires whole { AllByRecursion IsComplete (exprs_of (named_trees (tree_at arena.now.items) reduced.items)) }
-    requires room { HasRoom arena.now.items (λ f. (with_reduce_by low.old.origin.0 (stream_of input) (streams_of streams.items) (named_trees f reduced.items) (state_of f low.old)).state) }
     ensures made { Later arena.now.items (λ f. IfOk result (λ s. made_of f low.new s ≡ with_reduce_by low.old.origin.0 (stream_of input) (streams_of streams.items) (named_trees f reduced.items) (state_of f low.old))) }
     ensures nodes { Begins low.old.phys_sm.slots low.new.phys_sm.slots }
     ensures others { low.new ≡ record low.old { phys_sm = low.new.phys_sm } }

@@ -1,5 +1,5 @@
 //! The nodes that a lowering makes.
-ghost use Rattle.std.specs.Prelude.{◌≡◌, ◌+◌, ◌-◌, ◌<◌, ◌^◌, ◌++◌, ◌∷◌, [], Err, IfOk, OnErr, OnOk, flat_map, length};
+ghost use Rattle.std.specs.Prelude.{◌≡◌, ◌++◌, ◌∷◌, [], Err, IfOk, OnErr, OnOk, flat_map};
 ghost use Rattle.std.specs.List.{AllByRecursion};
 ghost use Rattle.ps_frame.specs.Trees.{IsComplete, Tree, tree_at};
 ghost use Rattle.ps_frame.specs.declared.refusal.PolarsError.{PolarsError};
@@ -25,20 +25,22 @@ use std::alloc::Global;
 
 /// A new node of the logical node that is being lowered; its first stream.
 ///
-/// Fails only for want of memory; nothing was then added.
+/// Fails only for want of memory, as where no number is left for a node; nothing was then added.
 pub fn insert(
     alloc: Global,
     low: &mut Lowering,
     schema: Schema,
     kind: PhysNodeKind,
 ) -> PolarsResult<PhysStream>
-    requires { length low.old.phys_sm.slots < 2 ^ 32 - 1 }
     ensures made { (f : ANode → Tree) → IfOk result (λ s. made_of f low.new s ≡ insert_node (state_of f low.old) (record { kind = kind_of f kind; schema = schema; origin = low.old.origin.0; inputs = inputs_of kind })) }
     ensures nodes { Begins low.old.phys_sm.slots low.new.phys_sm.slots }
     ensures same { OnErr result (low.new ≡ low.old) }
     ensures others { low.new ≡ record low.old { phys_sm = low.new.phys_sm } }
     ensures memory { OnErr result (result ≡ Err PolarsError.OutOfMemory) }
 {
+    if low.phys_sm.inserts() >= u32::MAX as usize {
+        return Err(PolarsError::OutOfMemory);
+    }
     // Shared from the start, so that nodes above take it over without a copy.
     let node = PhysNode::new(schema.into_shared(alloc), kind, low.origin);
     let key = low.phys_sm.insert(node)?;
@@ -67,7 +69,6 @@ pub fn over_same_columns(
     input: PhysStream,
     kind: PhysNodeKind,
 ) -> PolarsResult<PhysStream>
-    requires room { length low.old.phys_sm.slots < 2 ^ 32 - 1 }
     requires reads { inputs_of kind ≡ stream_of input ∷ [] }
     ensures made { (f : ANode → Tree) → IfOk result (λ s. made_of f low.new s ≡ over_same low.old.origin.0 (kind_of f kind) (stream_of input) (state_of f low.old)) }
     ensures nodes { Begins low.old.phys_sm.slots low.new.phys_sm.slots }
@@ -90,7 +91,6 @@ pub fn over_selection(
     selection: Selection,
     exprs: Vec<ExprIR>,
 ) -> PolarsResult<PhysStream>
-    requires room { length low.old.phys_sm.slots < 2 ^ 32 - 1 }
     requires whole { AllByRecursion IsComplete (exprs_of (named_trees (tree_at arena.now.items) exprs.items)) }
     ensures made { Later arena.now.items (λ f. IfOk result (λ s. made_of f low.new s ≡ over_selected low.old.origin.0 (selection_kind selection (named_trees f exprs.items)) (named_trees f exprs.items) (stream_of input) (state_of f low.old))) }
     ensures nodes { Begins low.old.phys_sm.slots low.new.phys_sm.slots }
@@ -143,7 +143,6 @@ pub fn independent(
     arena: &Arena<AExpr>,
     exprs: Vec<ExprIR>,
 ) -> PolarsResult<PhysStream>
-    requires room { length low.old.phys_sm.slots < 2 ^ 32 - 1 }
     requires whole { AllByRecursion IsComplete (exprs_of (named_trees (tree_at arena.now.items) exprs.items)) }
     ensures made { Later arena.now.items (λ f. IfOk result (λ s. made_of f low.new s ≡ without_input low.old.origin.0 (named_trees f exprs.items) (state_of f low.old))) }
     ensures nodes { Begins low.old.phys_sm.slots low.new.phys_sm.slots }
@@ -171,7 +170,6 @@ pub fn columns_of(
     input: PhysStream,
     names: Vec<PlSmallStr>,
 ) -> PolarsResult<PhysStream>
-    requires room { (f : ANode → Tree) → length (with_columns low.old.origin.0 names.items (stream_of input) (state_of f low.old)).state.nodes < 2 ^ 32 }
     ensures made { (f : ANode → Tree) → IfOk result (λ s. made_of f low.new s ≡ with_columns low.old.origin.0 names.items (stream_of input) (state_of f low.old)) }
     ensures nodes { Begins low.old.phys_sm.slots low.new.phys_sm.slots }
     ensures same { OnErr result (low.new ≡ low.old) }
@@ -202,7 +200,6 @@ pub fn one_of_all(
     low: &mut Lowering,
     streams: Vec<PhysStream>,
 ) -> PolarsResult<PhysStream>
-    requires room { (f : ANode → Tree) (input : Stream) → length (one_stream low.old.origin.0 input (streams_of streams.items) (state_of f low.old)).state.nodes < 2 ^ 32 }
     ensures made { (f : ANode → Tree) (input : Stream) → IfOk result (λ s. made_of f low.new s ≡ one_stream low.old.origin.0 input (streams_of streams.items) (state_of f low.old)) }
     ensures nodes { Begins low.old.phys_sm.slots low.new.phys_sm.slots }
     ensures same { OnErr result (low.new ≡ low.old) }

@@ -1,33 +1,15 @@
-use Rattle.std.proofs.Common.{◌+◌, ◌^◌, ◌<◌, ap, length, refl, subst, sym, ◌∙◌}
-use Rattle.std.specs.Prelude.{List, map}
+use Rattle.std.proofs.Common.{ap, refl, subst, sym, ◌∙◌}
 use Rattle.std.specs.List.{AllByRecursion}
-use Rattle.pu_base.specs.declared.arena.Node.{Node}
-use Rattle.ps_frame.specs.Trees.{IsComplete, Tree, tree_at}
-use Rattle.ps_meaning.specs.Steps.{key_trees}
+use Rattle.ps_frame.specs.Trees.{IsComplete, tree_at}
 use Rattle.ps_phys.specs.Shown.{stream_of}
-use Rattle.ps_rules.specs.Counted.{inserts_for}
-use Rattle.ps_rules.specs.Lowered.{as_operand}
-use Rattle.ps_rules.specs.Rules.{together}
-use Rattle.lowering_parts.specs.Gathered.{HasRoom, state_of, trees_at}
+use Rattle.lowering_parts.specs.Gathered.{trees_at}
 use Rattle.lowering_parts.proofs.Going.{goes_built, goes_nowhere}
-use Rattle.expr_lowering.proofs.CallLemmas.{call_adds, call_exprs, call_new_exprs, call_nodes, call_stream, room_of_call, room_of_end}
+use Rattle.expr_lowering.proofs.CallLemmas.{call_adds, call_exprs, call_new_exprs, call_nodes, call_stream}
 use Rattle.expr_lowering.proofs.exprs.lower_exprs.Goals as goal
 
 pub together-requires-clause-exprs : goal.together-requires-clause-exprs
 together-requires-clause-exprs c =
     subst (AllByRecursion IsComplete) (sym (ap (trees_at (tree_at c.args.expr_arena.now.items)) c.as_slice.ensures.value ∙ c.in_ok-nodes.ensures.trees (tree_at c.args.expr_arena.now.items))) c.requires.whole
-
-pub together-requires-clause-room : goal.together-requires-clause-room
-together-requires-clause-room c =
-    subst (λ (es : List Tree). HasRoom c.args.expr_arena.now.items (λ f. (together c.args.low.now.origin.0 (stream_of c.args.input) (map (as_operand c.args.low.now.origin.0 (stream_of c.args.input)) es) (state_of f c.args.low.now)).state))
-    (sym (ap (trees_at (tree_at c.args.expr_arena.now.items)) c.as_slice.ensures.value ∙ c.in_ok-nodes.ensures.trees (tree_at c.args.expr_arena.now.items)))
-    (room_of_call c.args.low.now.origin.0 (stream_of c.args.input) (key_trees (tree_at c.args.expr_arena.now.items) c.args.exprs.now) c.args.expr_arena.now.items c.args.low.now c.requires.room)
-
-pub finish-requires-clause-room : goal.finish-requires-clause-room
-finish-requires-clause-room c =
-    room_of_end c.args.low.now.origin.0 (stream_of c.args.input) (trees_at (tree_at c.args.expr_arena.now.items) c.as_slice.result.now) c.args.expr_arena.now.items c.together.new.arena.items c.args.low.now c.together.new.low c.in_ok-bundle.bundle c.in_ok-bundle.ensures.gathers
-    (ap (λ (n : Node). n.0) c.in_ok-bundle.ensures.gathers.goes_on.origin)
-    (subst (λ (es : List Tree). length c.args.low.now.phys_sm.slots + inserts_for es < 2 ^ 32) (sym (ap (trees_at (tree_at c.args.expr_arena.now.items)) c.as_slice.ensures.value ∙ c.in_ok-nodes.ensures.trees (tree_at c.args.expr_arena.now.items))) c.requires.room)
 
 pub returns-clause-nodes : goal.returns-clause-nodes
 returns-clause-nodes c =

@@ -1,4 +1,4 @@
-use Rattle.std.proofs.Common.{◌≡◌, [], ◌∷◌, suc, ◌+◌, ◌*◌, ◌^◌, ◌<◌, List, ap, arith, get_or, length, refl, sym, subst, ◌∙◌}
+use Rattle.std.proofs.Common.{◌≡◌, [], ◌∷◌, suc, ◌+◌, ◌*◌, ◌<◌, List, ap, arith, get_or, length, refl, sym, subst, ◌∙◌}
 use Rattle.std.specs.Prelude.{None, Some, map}
 use Rattle.std.specs.List.{AllByRecursion}
 use Rattle.pu_base.specs.declared.arena.Node.{Node}
@@ -19,13 +19,13 @@ use Rattle.lowering_parts.specs.Reads.{aggregate_operand}
 use Rattle.lowering_parts.proofs.Going.{begins_then, goes_added, goes_built, goes_knowing, goes_nowhere, goes_then}
 use Rattle.lowering_parts.proofs.Grown.{kept-then}
 use Rattle.expr_lowering.proofs.Following.{expr_later, goes_cached, goes_fresh, goes_renamed}
-use Rattle.expr_lowering.proofs.Arms.{arm_room, filter_follows, ok_then, operator_follows, sort_by_arm, sort_by_columns, sort_by_follows, sort_follows, stay_follows, tree_later}
-use Rattle.expr_lowering.proofs.Ends.{aggregate_left, aggregate_reduced, apart_ok, gather_ok, same_follows, same_room, select_apart_ok, select_computed_ok, select_own_ok}
+use Rattle.expr_lowering.proofs.Arms.{filter_follows, ok_then, operator_follows, sort_by_arm, sort_by_follows, sort_follows, stay_follows, tree_later}
+use Rattle.expr_lowering.proofs.Ends.{aggregate_left, aggregate_reduced, apart_ok, gather_ok, same_follows, select_apart_ok, select_computed_ok, select_own_ok}
 use Rattle.expr_lowering.proofs.Reductions.{reduce_alone, reduce_apart}
-use Rattle.expr_lowering.proofs.Rooms.{each_follows, item_smaller, item_whole, room_at, room_each, room_gather, slot_apart}
+use Rattle.expr_lowering.proofs.EachLemmas.{each_follows, item_smaller, item_whole}
 use Rattle.expr_lowering.proofs.Ruled.{all_complete, as_many_names}
 use Rattle.expr_lowering.proofs.Selections.{under_whole}
-use Rattle.expr_lowering.proofs.Steps.{filter_room, filter_slot, pushed_two, reduce_end, reduce_slot, select_apart_slot, select_end, select_own_room, select_room, select_slot, sort_by_room, sort_by_slot, sort_slot}
+use Rattle.expr_lowering.proofs.Arms.{pushed_two}
 use Rattle.expr_lowering.proofs.lower.+lowering.Goals as goal
 
 pub lower-returns-then-elementwise-clause-follows : goal.lower-returns-then-elementwise-clause-follows
@@ -54,15 +54,7 @@ lower_entry-lower_sort_by-requires t c =
         complete.0,
         (
           subst (λ (ns : List Node). AllByRecursion IsComplete (trees_at (tree_at c.args.arena.now.items) ns)) (sym (c.as_slice-keys.ensures.value ∙ c.in_ok-copied-in-SortBy.ensures.same)) (all_complete (tree_at c.args.arena.now.items) c.in-SortBy.by complete.1),
-          (
-            c.requires.cache,
-            (
-              c.requires.whole,
-              same_room (lower c.args.low.now.origin.0 (stream_of c.args.input) (tree_at c.args.arena.now.items c.args.expr)) (sorted_by c.args.low.now.origin.0 (stream_of c.args.input) c.in_ok-options-in-SortBy.options.descending c.in_ok-options-in-SortBy.options.nulls_last (as_operand c.args.low.now.origin.0 (stream_of c.args.input) (tree_at c.args.arena.now.items c.in-SortBy.expr)) (map (as_operand c.args.low.now.origin.0 (stream_of c.args.input)) (trees_at (tree_at c.args.arena.now.items) c.as_slice-keys.result.now)))
-                  (sort_by_arm c.args.low.now.origin.0 (stream_of c.args.input) (tree_at c.args.arena.now.items) (tree_at c.args.arena.now.items c.args.expr) c.in-SortBy.expr c.in-SortBy.by c.as_slice-keys.result.now c.in-SortBy.descending c.in-SortBy.nulls_last c.in_ok-options-in-SortBy.options.descending c.in_ok-options-in-SortBy.options.nulls_last
-                  (c.entry.ensures.tree ∙ ap (λ (e : AExpr). entry_tree (tree_at c.args.arena.now.items) (Some e)) c.in-SortBy.is) c.requires.apart (c.as_slice-keys.ensures.value ∙ c.in_ok-copied-in-SortBy.ensures.same) c.in_ok-options-in-SortBy.ensures.descending c.in_ok-options-in-SortBy.ensures.nulls_last) c.args.arena.now.items c.args.low.now c.args.call.now c.requires.room,
-            ),
-          ),
+          (c.requires.cache, c.requires.whole),
         ),
       ),
     )
@@ -83,14 +75,7 @@ lower_entry-lower_filter-requires t c =
         complete.0,
         (
           complete.1,
-          (
-            c.requires.cache,
-            (
-              c.requires.whole,
-              arm_room c.args.low.now.origin.0 (stream_of c.args.input) (tree_at c.args.arena.now.items c.args.expr) (Tree.filter (tree_at c.args.arena.now.items c.in-Filter.values) (tree_at c.args.arena.now.items c.in-Filter.by))
-                  (c.entry.ensures.tree ∙ ap (λ (e : AExpr). entry_tree (tree_at c.args.arena.now.items) (Some e)) c.in-Filter.is) c.requires.apart c.args.arena.now.items c.args.low.now c.args.call.now c.requires.room,
-            ),
-          ),
+          (c.requires.cache, c.requires.whole),
         ),
       ),
     )
@@ -120,11 +105,6 @@ lower_operands-returns-in_err-expr-clause-goes_on t c = goes_added c.args.arena.
 
 pub lower_operands-returns-clause-goes_on : goal.lower_operands-returns-clause-goes_on
 lower_operands-returns-clause-goes_on t c = goes_added c.args.arena.now.items c.together.new.arena.items c.add_expr.new.arena.items c.args.low.now c.together.new.low c.together.ensures.goes_on c.add_expr.ensures.entries c.add_expr.ensures.kept
-
-pub lower_sort-over_same_columns-requires-clause-room : goal.lower_sort-over_same_columns-requires-clause-room
-lower_sort-over_same_columns-requires-clause-room t c =
-    sort_slot (stream_of c.args.input) c.args.expr c.args.descending c.args.nulls_last c.args.arena.now.items c.args.low.now c.fresh.new.low c.args.call.now c.in_ok-name.name c.in_ok-names.names.items
-    c.in_ok-name.ensures.name c.in_ok-name.ensures.next (c.in_ok-names.ensures.one ∙ ap (λ n. n ∷ []) c.in_ok-copied.ensures.same) c.requires.room c.select.new.arena.items c.select.new.low c.in_ok-stream.stream c.in_ok-stream.ensures.makes
 
 pub lower_sort-returns-clause-follows : goal.lower_sort-returns-clause-follows
 lower_sort-returns-clause-follows t c =
@@ -174,30 +154,10 @@ lower_sort_by-select-requires t c =
         subst (λ (ns : List Node). AllByRecursion IsComplete (trees_at (tree_at c.args.arena.now.items) ns)) (sym (c.as_slice-operands.ensures.value ∙ c.in_ok-listed.ensures.all)) (c.requires.values, c.requires.by),
         (
           (goes_renamed c.args.arena.now.items c.args.low.now c.fresh_names.new.low c.requires.cache c.fresh_names.ensures.known c.fresh_names.ensures.others).cache,
-          (
-            ap length (c.in_ok-asked.ensures.same ∙ c.as_slice-names.ensures.value ∙ c.in_ok-given.ensures.names (tree_at c.args.arena.now.items)) ∙ as_many_names c.as_slice-operands.result.now (state_of (tree_at c.args.arena.now.items) c.args.low.now),
-            sort_by_room (stream_of c.args.input) c.args.options.descending c.args.options.nulls_last c.args.values c.args.by.now c.args.arena.now.items c.args.low.now c.fresh_names.new.low c.args.call.now c.in_ok-asked.asked.items c.as_slice-operands.result.now
-                (c.as_slice-operands.ensures.value ∙ c.in_ok-listed.ensures.all) (λ f. (c.in_ok-asked.ensures.same ∙ c.as_slice-names.ensures.value ∙ c.in_ok-given.ensures.names f)) c.in_ok-given.ensures.next c.fresh_names.ensures.others c.requires.room,
-          ),
+          ap length (c.in_ok-asked.ensures.same ∙ c.as_slice-names.ensures.value ∙ c.in_ok-given.ensures.names (tree_at c.args.arena.now.items)) ∙ as_many_names c.as_slice-operands.result.now (state_of (tree_at c.args.arena.now.items) c.args.low.now),
         ),
       ),
     )
-
-pub lower_sort_by-over_same_columns-requires-clause-room : goal.lower_sort_by-over_same_columns-requires-clause-room
-lower_sort_by-over_same_columns-requires-clause-room t c =
-    sort_by_slot (stream_of c.args.input) c.args.options.descending c.args.options.nulls_last c.args.values c.args.by.now c.args.arena.now.items c.args.low.now c.fresh_names.new.low c.args.call.now c.in_ok-asked.asked.items c.as_slice-operands.result.now
-    (c.as_slice-operands.ensures.value ∙ c.in_ok-listed.ensures.all) (λ f. c.in_ok-asked.ensures.same ∙ c.as_slice-names.ensures.value ∙ c.in_ok-given.ensures.names f) c.in_ok-given.ensures.next c.fresh_names.ensures.others c.requires.room
-    c.select.new.arena.items c.select.new.low c.in_ok-stream.stream c.in_ok-stream.ensures.makes
-
-pub lower_sort_by-columns_of-requires : goal.lower_sort_by-columns_of-requires
-lower_sort_by-columns_of-requires t c =
-    record {
-      room = subst (λ (ns : List Name). (f : Node → Tree) → length (with_columns c.over_same_columns.new.low.origin.0 ns (stream_of c.in_ok-sorted.sorted) (state_of f c.over_same_columns.new.low)).state.nodes < 2 ^ 32) (sym c.in_ok-alone.ensures.first)
-          (sort_by_columns (stream_of c.args.input) c.args.values c.args.by.now c.args.options.descending c.args.options.nulls_last c.args.arena.now.items c.select.new.arena.items c.value_and_keys.new.arena.items c.args.low.now c.fresh_names.new.low c.select.new.low c.over_same_columns.new.low
-          c.as_slice-names.result.now c.in_ok-asked.asked.items c.in_ok-stream.stream c.in_ok-sorted.sorted c.in_ok-column.column c.in_ok-column.keys.items c.sort_of.result c.as_slice-operands.result.now
-          (c.as_slice-operands.ensures.value ∙ c.in_ok-listed.ensures.all) (λ f. c.as_slice-names.ensures.value ∙ c.in_ok-given.ensures.names f) c.in_ok-given.ensures.next (goes_renamed c.args.arena.now.items c.args.low.now c.fresh_names.new.low c.requires.cache c.fresh_names.ensures.known c.fresh_names.ensures.others) c.fresh_names.ensures.others c.in_ok-asked.ensures.same c.in_ok-stream.ensures.makes
-          c.value_and_keys.ensures.entries c.value_and_keys.ensures.kept c.in_ok-column.ensures.value c.in_ok-column.ensures.keys c.sort_of.ensures.kind c.in_ok-sorted.ensures.made c.over_same_columns.ensures.nodes c.over_same_columns.ensures.others c.args.call.now c.requires.room);
-    }
 
 pub lower_sort_by-returns-clause-follows : goal.lower_sort_by-returns-clause-follows
 lower_sort_by-returns-clause-follows t c =
@@ -245,20 +205,10 @@ lower_filter-select-requires t c =
         (c.requires.values, (c.requires.by, tt)),
         (
           (goes_fresh c.fresh-2.result c.args.arena.now.items c.fresh.new.low c.fresh-2.new.low (goes_fresh c.fresh.result c.args.arena.now.items c.args.low.now c.fresh.new.low c.requires.cache c.fresh.ensures.next c.fresh.ensures.same).cache c.fresh-2.ensures.next c.fresh-2.ensures.same).cache,
-          (
-            ap length (pushed_two c.in_ok-names.ensures.one c.in_ok-copied.ensures.same c.in_ok-copied-2.ensures.same c.in_ok-push.ensures.items),
-            filter_room (stream_of c.args.input) c.args.values c.args.by c.args.arena.now.items c.args.low.now c.fresh.new.low c.fresh-2.new.low c.args.call.now c.in_ok-value_name.value_name c.in_ok-by_name.by_name c.push.new.self.items
-                c.in_ok-value_name.ensures.name c.in_ok-value_name.ensures.next c.in_ok-by_name.ensures.name c.in_ok-by_name.ensures.next (pushed_two c.in_ok-names.ensures.one c.in_ok-copied.ensures.same c.in_ok-copied-2.ensures.same c.in_ok-push.ensures.items) c.requires.room,
-          ),
+          ap length (pushed_two c.in_ok-names.ensures.one c.in_ok-copied.ensures.same c.in_ok-copied-2.ensures.same c.in_ok-push.ensures.items),
         ),
       ),
     )
-
-pub lower_filter-over_same_columns-requires-clause-room : goal.lower_filter-over_same_columns-requires-clause-room
-lower_filter-over_same_columns-requires-clause-room t c =
-    filter_slot (stream_of c.args.input) c.args.values c.args.by c.args.arena.now.items c.args.low.now c.fresh.new.low c.fresh-2.new.low c.args.call.now c.in_ok-value_name.value_name c.in_ok-by_name.by_name c.push.new.self.items
-    c.in_ok-value_name.ensures.name c.in_ok-value_name.ensures.next c.in_ok-by_name.ensures.name c.in_ok-by_name.ensures.next (pushed_two c.in_ok-names.ensures.one c.in_ok-copied.ensures.same c.in_ok-copied-2.ensures.same c.in_ok-push.ensures.items) c.requires.room
-    c.select.new.arena.items c.select.new.low c.in_ok-stream.stream c.in_ok-stream.ensures.makes
 
 pub lower_filter-returns-clause-follows : goal.lower_filter-returns-clause-follows
 lower_filter-returns-clause-follows t c =
@@ -326,18 +276,6 @@ reduce-returns-then-is_input_alone-clause-follows t c =
     (λ f. sym (c.is_input_alone.ensures f) ∙ c.if-is_input_alone.true) c.in_ok-column.ensures.next c.reduction_of.ensures.goes_on.entries c.reduction_of.ensures.goes_on.trees c.in_ok-column.ensures.column c.in_ok-column.ensures.whole (c.in_ok-column.ensures.tree ∙ ap (λ (ns : List Node). Tree.aggregate (aggregation_of c.args.aggregate) (first_tree (trees_at (tree_at c.together.new.arena.items) ns))) c.as_slice.ensures.value) c.in_ok-column.ensures.name)
     c.give_reduction.ensures.streams c.give_reduction.ensures.reduced c.give_reduction.ensures.exprs c.give_reduction.ensures.mapped
 
-pub reduce-finish-requires-clause-room : goal.reduce-finish-requires-clause-room
-reduce-finish-requires-clause-room t c =
-    reduce_end (stream_of c.args.input) (aggregation_of c.args.aggregate) (aggregate_operand c.args.aggregate) c.args.arena.now.items c.args.low.now c.args.call.now c.requires.room c.together.new.arena.items c.together.new.low c.in_ok-bundle.bundle
-    (subst (λ (n : Node). Gathers (together c.args.low.now.origin.0 (stream_of c.args.input) (map (as_operand c.args.low.now.origin.0 (stream_of c.args.input)) (trees_at (tree_at c.args.arena.now.items) (n ∷ [])))) c.args.arena.now.items c.together.new.arena.items c.args.low.now c.together.new.low c.in_ok-bundle.bundle) c.aggregated.ensures c.in_ok-bundle.ensures.gathers)
-    (λ f. sym (c.is_input_alone.ensures f) ∙ c.if-is_input_alone.false)
-
-pub reduce-over_selection-requires-clause-room : goal.reduce-over_selection-requires-clause-room
-reduce-over_selection-requires-clause-room t c =
-    reduce_slot (stream_of c.args.input) (aggregation_of c.args.aggregate) (aggregate_operand c.args.aggregate) c.args.arena.now.items c.args.low.now c.args.call.now c.requires.room c.together.new.arena.items c.together.new.low c.in_ok-bundle.bundle
-    (subst (λ (n : Node). Gathers (together c.args.low.now.origin.0 (stream_of c.args.input) (map (as_operand c.args.low.now.origin.0 (stream_of c.args.input)) (trees_at (tree_at c.args.arena.now.items) (n ∷ [])))) c.args.arena.now.items c.together.new.arena.items c.args.low.now c.together.new.low c.in_ok-bundle.bundle) c.aggregated.ensures c.in_ok-bundle.ensures.gathers)
-    (λ f. sym (c.is_input_alone.ensures f) ∙ c.if-is_input_alone.false) c.finish.new.low c.reduction_of-2.new.low c.in_ok-stream.stream c.in_ok-stream.ensures.made c.in_ok-name.ensures.next
-
 pub reduce-returns-clause-follows : goal.reduce-returns-clause-follows
 reduce-returns-clause-follows t c =
     ok_then c.give.result
@@ -375,42 +313,29 @@ pub select-together-requires : goal.select-together-requires
 select-together-requires t c =
     let less : 16 * trees_size (trees_of (tree_at c.args.arena.now.items) c.args.exprs.now) + 5 < 16 * trees_size (trees_of (tree_at c.args.arena.now.items) c.args.exprs.now) + 6 = omega arith in
     let falls : 16 * trees_size (trees_of (tree_at c.args.arena.now.items) c.args.exprs.now) + 5 < t = omega arith in
-    (falls, (c.requires.exprs, (c.are_independent.ensures.cache, select_room (stream_of c.args.input) c.args.names.items c.args.exprs.now c.args.arena.now.items c.args.low.now c.are_independent.new.low c.requires.names c.are_independent.ensures.others c.requires.room (sym c.in_ok-all_apart.ensures.are ∙ c.if-all_apart.false) (ap (λ (ns : List Name). are_own ns (trees_at (tree_at c.args.arena.now.items) c.args.exprs.now)) (sym c.as_slice-2.ensures.value) ∙ sym c.are_own_columns.ensures ∙ c.if-are_own_columns.false))))
+    (falls, (c.requires.exprs, c.are_independent.ensures.cache))
 
-pub select-independent-requires-clause-room : goal.select-independent-requires-clause-room
-select-independent-requires-clause-room t c =
-    select_apart_slot (stream_of c.args.input) c.args.names.items c.args.exprs.now c.args.arena.now.items c.args.low.now c.are_independent.new.low c.requires.names c.are_independent.ensures.others c.requires.room (sym c.in_ok-all_apart.ensures.are ∙ c.if-all_apart.true)
-
-pub select-independent-requires-clause-whole : goal.select-independent-requires-clause-whole
-select-independent-requires-clause-whole t c = under_whole (tree_at c.args.arena.now.items) c.as_slice.result.now c.args.exprs.now c.in_ok-named.named.items (c.in_ok-named.ensures.named (tree_at c.args.arena.now.items)) c.requires.exprs
+pub select-independent-requires : goal.select-independent-requires
+select-independent-requires t c =
+    record {
+      whole = under_whole (tree_at c.args.arena.now.items) c.as_slice.result.now c.args.exprs.now c.in_ok-named.named.items (c.in_ok-named.ensures.named (tree_at c.args.arena.now.items)) c.requires.exprs;
+    }
 
 pub select-returns-then-all_apart-clause-makes : goal.select-returns-then-all_apart-clause-makes
 select-returns-then-all_apart-clause-makes t c =
     select_apart_ok (stream_of c.args.input) c.args.names.items c.args.exprs.now c.args.arena.now.items c.args.low.now c.are_independent.new.low c.requires.names c.are_independent.ensures.others c.independent.result c.independent.new.low c.in_ok-named.named.items c.requires.exprs (sym c.in_ok-all_apart.ensures.are ∙ c.if-all_apart.true) c.are_independent.ensures.cache
     (λ f. c.in_ok-named.ensures.named f ∙ ap (λ (ns : List Name). under ns (trees_at f c.args.exprs.now)) c.as_slice.ensures.value) c.independent.ensures.made c.independent.ensures.nodes c.independent.ensures.others
 
-pub select-columns_of-requires : goal.select-columns_of-requires
-select-columns_of-requires t c =
-    record { room = select_own_room (stream_of c.args.input) c.args.names.items c.args.exprs.now c.args.arena.now.items c.args.low.now c.are_independent.new.low c.requires.names c.are_independent.ensures.others c.requires.room (sym c.in_ok-all_apart.ensures.are ∙ c.if-all_apart.false) (ap (λ (ns : List Name). are_own ns (trees_at (tree_at c.args.arena.now.items) c.args.exprs.now)) (sym c.as_slice-2.ensures.value) ∙ sym c.are_own_columns.ensures ∙ c.if-are_own_columns.true) }
-
 pub select-returns-then-are_own_columns-clause-makes : goal.select-returns-then-are_own_columns-clause-makes
 select-returns-then-are_own_columns-clause-makes t c =
     select_own_ok (stream_of c.args.input) c.args.names.items c.args.exprs.now c.args.arena.now.items c.args.low.now c.are_independent.new.low c.requires.names c.are_independent.ensures.others c.columns_of.result c.columns_of.new.low (sym c.in_ok-all_apart.ensures.are ∙ c.if-all_apart.false) (ap (λ (ns : List Name). are_own ns (trees_at (tree_at c.args.arena.now.items) c.args.exprs.now)) (sym c.as_slice-2.ensures.value) ∙ sym c.are_own_columns.ensures ∙ c.if-are_own_columns.true) c.are_independent.ensures.cache c.columns_of.ensures.made c.columns_of.ensures.nodes c.columns_of.ensures.others
 
-pub select-finish-requires-clause-room : goal.select-finish-requires-clause-room
-select-finish-requires-clause-room t c =
-    select_end (stream_of c.args.input) c.args.names.items c.args.exprs.now c.args.arena.now.items c.args.low.now c.are_independent.new.low c.requires.names c.are_independent.ensures.others c.requires.room (sym c.in_ok-all_apart.ensures.are ∙ c.if-all_apart.false) (ap (λ (ns : List Name). are_own ns (trees_at (tree_at c.args.arena.now.items) c.args.exprs.now)) (sym c.as_slice-2.ensures.value) ∙ sym c.are_own_columns.ensures ∙ c.if-are_own_columns.false)
-    c.together.new.arena.items c.together.new.low c.in_ok-bundle.bundle c.in_ok-bundle.ensures.gathers
-
-pub select-over_selection-requires-clause-room : goal.select-over_selection-requires-clause-room
-select-over_selection-requires-clause-room t c =
-    select_slot (stream_of c.args.input) c.args.names.items c.args.exprs.now c.args.arena.now.items c.args.low.now c.are_independent.new.low c.requires.names c.are_independent.ensures.others c.requires.room (sym c.in_ok-all_apart.ensures.are ∙ c.if-all_apart.false) (ap (λ (ns : List Name). are_own ns (trees_at (tree_at c.args.arena.now.items) c.args.exprs.now)) (sym c.as_slice-2.ensures.value) ∙ sym c.are_own_columns.ensures ∙ c.if-are_own_columns.false)
-    c.together.new.arena.items c.together.new.low c.in_ok-bundle.bundle c.in_ok-bundle.ensures.gathers c.finish.new.low c.in_ok-stream.stream c.in_ok-stream.ensures.made
-
-pub select-over_selection-requires-clause-whole : goal.select-over_selection-requires-clause-whole
-select-over_selection-requires-clause-whole t c =
-    under_whole (tree_at c.together.new.arena.items) c.as_slice-3.result.now c.as_slice-4.result.now c.in_ok-selected.selected.items (c.in_ok-selected.ensures.named (tree_at c.together.new.arena.items))
-    (subst (λ (ns : List Node). AllByRecursion IsComplete (trees_at (tree_at c.together.new.arena.items) ns)) (sym (c.as_slice-4.ensures.value ∙ c.in_ok-stream.ensures.exprs)) c.in_ok-bundle.ensures.gathers.whole.exprs)
+pub select-over_selection-requires : goal.select-over_selection-requires
+select-over_selection-requires t c =
+    record {
+      whole = under_whole (tree_at c.together.new.arena.items) c.as_slice-3.result.now c.as_slice-4.result.now c.in_ok-selected.selected.items (c.in_ok-selected.ensures.named (tree_at c.together.new.arena.items))
+          (subst (λ (ns : List Node). AllByRecursion IsComplete (trees_at (tree_at c.together.new.arena.items) ns)) (sym (c.as_slice-4.ensures.value ∙ c.in_ok-stream.ensures.exprs)) c.in_ok-bundle.ensures.gathers.whole.exprs);
+    }
 
 pub select-returns-clause-makes : goal.select-returns-clause-makes
 select-returns-clause-makes t c =
@@ -448,7 +373,7 @@ lower_each-lower-requires t c =
     let same = ap tree_size (c.loop-expr.invariant.goes_on.trees (get_or c.args.exprs.now c.loop-expr.expr-index (record { 0 = 0 })) (item_whole (tree_at c.args.arena.now.items) c.args.exprs.now c.loop-expr.expr-index (record { 0 = 0 }) c.loop-expr-test.true c.requires.exprs)) in
     omega arith) in
     let falls : 16 * tree_size (tree_at c.loop-expr.arena.items (get_or c.args.exprs.now c.loop-expr.expr-index (record { 0 = 0 }))) + 3 < t = omega arith in
-    (falls, (expr_later c.args.arena.now.items c.loop-expr.arena.items c.loop-expr.invariant.goes_on.trees _ (item_whole (tree_at c.args.arena.now.items) c.args.exprs.now c.loop-expr.expr-index (record { 0 = 0 }) c.loop-expr-test.true c.requires.exprs), (c.loop-expr.invariant.goes_on.cache, (c.loop-expr.invariant.whole, room_at (stream_of c.args.input) c.args.exprs.now c.loop-expr.expr-index (record { 0 = 0 }) c.args.arena.now.items c.loop-expr.arena.items c.args.low.now c.loop-expr.low c.args.call.now c.loop-expr.call _ c.loop-expr-test.true refl c.requires.exprs c.loop-expr.invariant c.requires.room))))
+    (falls, (expr_later c.args.arena.now.items c.loop-expr.arena.items c.loop-expr.invariant.goes_on.trees _ (item_whole (tree_at c.args.arena.now.items) c.args.exprs.now c.loop-expr.expr-index (record { 0 = 0 }) c.loop-expr-test.true c.requires.exprs), (c.loop-expr.invariant.goes_on.cache, c.loop-expr.invariant.whole)))
 
 pub lower_each-loop-expr-preserved : goal.lower_each-loop-expr-preserved
 lower_each-loop-expr-preserved t c =
@@ -470,23 +395,10 @@ together-lower_each-requires t c =
         c.requires.exprs,
         (
           c.are_independent.ensures.cache,
-          (
-            record { reduced = subst (λ (es : List ExprIR). AllByRecursion IsComplete (key_trees (tree_at c.args.arena.now.items) es)) (sym c.new-call.ensures.reduced) tt; exprs = subst (λ (ns : List Node). AllByRecursion IsComplete (trees_at (tree_at c.args.arena.now.items) ns)) (sym c.new-call.ensures.exprs) tt; mapped = subst (λ (es : List ExprIR). AllByRecursion IsComplete (key_trees (tree_at c.args.arena.now.items) es)) (sym c.new-call.ensures.mapped) tt },
-            room_each (stream_of c.args.input) (trees_at (tree_at c.args.arena.now.items) c.args.exprs.now) c.args.arena.now.items c.args.low.now c.are_independent.new.low c.new-call.result (sym c.in_ok-all_apart.ensures.are ∙ c.if-all_apart.false) c.are_independent.ensures.others
-                c.new-call.ensures.streams c.new-call.ensures.reduced c.new-call.ensures.exprs c.new-call.ensures.mapped c.requires.room,
-          ),
+          record { reduced = subst (λ (es : List ExprIR). AllByRecursion IsComplete (key_trees (tree_at c.args.arena.now.items) es)) (sym c.new-call.ensures.reduced) tt; exprs = subst (λ (ns : List Node). AllByRecursion IsComplete (trees_at (tree_at c.args.arena.now.items) ns)) (sym c.new-call.ensures.exprs) tt; mapped = subst (λ (es : List ExprIR). AllByRecursion IsComplete (key_trees (tree_at c.args.arena.now.items) es)) (sym c.new-call.ensures.mapped) tt },
         ),
       ),
     )
-
-pub together-apart-requires-clause-room : goal.together-apart-requires-clause-room
-together-apart-requires-clause-room t c =
-    slot_apart (stream_of c.args.input) (trees_at (tree_at c.args.arena.now.items) c.args.exprs.now) c.args.arena.now.items c.args.low.now c.are_independent.new.low (sym c.in_ok-all_apart.ensures.are ∙ c.if-all_apart.true) c.are_independent.ensures.others c.requires.room
-
-pub together-gather-requires-clause-room : goal.together-gather-requires-clause-room
-together-gather-requires-clause-room t c =
-    room_gather (stream_of c.args.input) (trees_at (tree_at c.args.arena.now.items) c.args.exprs.now) c.args.arena.now.items c.lower_each.new.arena.items c.args.low.now c.are_independent.new.low c.lower_each.new.low c.new-call.result c.lower_each.new.call
-    (sym c.in_ok-all_apart.ensures.are ∙ c.if-all_apart.false) c.are_independent.ensures.others c.new-call.ensures.streams c.new-call.ensures.reduced c.new-call.ensures.exprs c.new-call.ensures.mapped c.in_ok-lower_each.ensures.follows c.requires.room
 
 pub together-returns-then-all_apart-clause-gathers : goal.together-returns-then-all_apart-clause-gathers
 together-returns-then-all_apart-clause-gathers t c =

@@ -10,8 +10,8 @@ use Rattle.expr_lowering.proofs.Following.{goes_renamed}
 use Rattle.expr_lowering.proofs.Selections.{apart_gathers, under_whole}
 use Rattle.expr_lowering.proofs.lower.apart.Goals as goal
 
-pub independent-requires-clause-whole : goal.independent-requires-clause-whole
-independent-requires-clause-whole c = under_whole (tree_at c.args.arena.now.items) c.as_slice.result.now c.args.exprs.now c.in_ok-named.named.items (c.in_ok-named.ensures.named (tree_at c.args.arena.now.items)) c.requires.exprs
+pub independent-requires : goal.independent-requires
+independent-requires c = record { whole = under_whole (tree_at c.args.arena.now.items) c.as_slice.result.now c.args.exprs.now c.in_ok-named.named.items (c.in_ok-named.ensures.named (tree_at c.args.arena.now.items)) c.requires.exprs }
 
 pub returns-clause-gathers : goal.returns-clause-gathers
 returns-clause-gathers c input =

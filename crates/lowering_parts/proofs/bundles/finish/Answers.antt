@@ -8,14 +8,8 @@ use Rattle.lowering_parts.specs.Gathered.{state_of}
 use Rattle.lowering_parts.proofs.BundleLemmas.{whole_named}
 use Rattle.lowering_parts.proofs.bundles.finish.Goals as goal
 
-pub one_of-requires-clause-whole : goal.one_of-requires-clause-whole
-one_of-requires-clause-whole c = whole_named (tree_at c.args.arena.now.items) c.args.bundle.reduced.items c.requires.whole.reduced
-
-pub one_of-requires-clause-room : goal.one_of-requires-clause-room
-one_of-requires-clause-room c later keeps =
-    let f = tree_at later in
-    subst (λ (ss : List PhysStream). length (one_of c.args.low.now.origin.0 (stream_of c.args.input) (streams_of ss) (named_trees f c.args.bundle.reduced.items) (state_of f c.args.low.now)).state.nodes < 2 ^ 32) (sym c.into_vec.ensures)
-    (c.requires.room later keeps)
+pub one_of-requires : goal.one_of-requires
+one_of-requires c = record { whole = whole_named (tree_at c.args.arena.now.items) c.args.bundle.reduced.items c.requires.whole.reduced }
 
 pub returns-clause-made : goal.returns-clause-made
 returns-clause-made c later keeps =

@@ -5,21 +5,8 @@ use Rattle.ps_fresh.specs.declared.lowering.Lowering.{Lowering}
 use Rattle.ps_meaning.specs.Steps.{named_trees}
 use Rattle.ps_rules.specs.Bundles.{names_kept}
 use Rattle.lowering_parts.specs.Gathered.{made_of}
-use Rattle.lowering_parts.proofs.BundleLemmas.{map_made, others_then, room_for_columns, room_for_map}
+use Rattle.lowering_parts.proofs.BundleLemmas.{map_made, others_then}
 use Rattle.lowering_parts.proofs.bundles.map_over.Goals as goal
-
-pub columns_of-requires : goal.columns_of-requires
-columns_of-requires c =
-    let arena = c.args.arena.now.items in
-    let read = c.in_ok-names.ensures.names ∙ ap (λ es. names_kept (named_trees (tree_at arena) es) c.in_ok-schema.schema) c.as_slice.ensures.value in
-    record { room = λ f. room_for_columns arena c.args.low.now c.args.low.now c.args.input c.args.input c.args.mapped.items c.in_ok-names.names.items c.in_ok-schema.schema c.in_ok-schema.ensures.schema read c.requires.whole c.requires.room f }
-
-pub over_selection-requires-clause-room : goal.over_selection-requires-clause-room
-over_selection-requires-clause-room c =
-    let arena = c.args.arena.now.items in
-    let read = c.in_ok-names.ensures.names ∙ ap (λ es. names_kept (named_trees (tree_at arena) es) c.in_ok-schema.schema) c.as_slice.ensures.value in
-    room_for_map arena c.args.low.now c.columns_of.new.low c.args.input c.in_ok-columns.columns c.args.mapped.items c.in_ok-names.names.items c.in_ok-schema.schema c.in_ok-schema.ensures.schema read c.requires.whole c.in_ok-columns.ensures.made
-    c.requires.room
 
 pub returns-clause-made : goal.returns-clause-made
 returns-clause-made c later keeps =

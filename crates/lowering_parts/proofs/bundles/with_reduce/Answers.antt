@@ -5,21 +5,8 @@ use Rattle.ps_fresh.specs.declared.lowering.Lowering.{Lowering}
 use Rattle.ps_meaning.specs.Steps.{named_trees}
 use Rattle.ps_phys.specs.Shown.{stream_of, streams_of}
 use Rattle.lowering_parts.specs.Gathered.{made_of}
-use Rattle.lowering_parts.proofs.BundleLemmas.{none_added, others_then, reduce_made, room_after_reduce, room_for_reduce}
+use Rattle.lowering_parts.proofs.BundleLemmas.{others_then, reduce_made}
 use Rattle.lowering_parts.proofs.bundles.with_reduce.Goals as goal
-
-pub over_selection-requires-clause-room : goal.over_selection-requires-clause-room
-over_selection-requires-clause-room c =
-    let arena = c.args.arena.now.items in
-    room_for_reduce c.args.low.now.origin.0 (stream_of c.args.input) (tree_at arena) c.args.low.now (streams_of c.args.streams.items) (named_trees (tree_at arena) c.args.reduced.items) (c.requires.room arena (none_added arena))
-
-pub one_of_all-requires : goal.one_of_all-requires
-one_of_all-requires c =
-    let arena = c.args.arena.now.items in
-    record {
-      room = λ g i. room_after_reduce c.args.low.now.origin.0 (stream_of c.args.input) (tree_at arena) c.args.low.now c.over_selection.new.low c.args.streams.items c.push.new.self.items c.in_ok-one.one c.args.reduced.items
-          (ap (λ (l : Lowering). l.origin.0) c.over_selection.ensures.others) (c.in_ok-one.ensures.made arena (none_added arena)) c.in_ok-push.ensures.items (c.requires.room arena (none_added arena)) g i;
-    }
 
 pub returns-clause-made : goal.returns-clause-made
 returns-clause-made c later keeps =

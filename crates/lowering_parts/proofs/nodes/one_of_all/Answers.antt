@@ -7,14 +7,8 @@ use Rattle.ps_phys.specs.Shown.{streams_of}
 use Rattle.ps_rules.specs.Slots.{schema_at}
 use Rattle.lowering_parts.specs.Gathered.{made_of, state_of}
 use Rattle.lowering_parts.specs.Operations.{only_stream}
-use Rattle.lowering_parts.proofs.NodeLemmas.{node_later, room_of_streams, several}
+use Rattle.lowering_parts.proofs.NodeLemmas.{node_later, several}
 use Rattle.lowering_parts.proofs.nodes.one_of_all.Goals as goal
-
-pub insert-requires : goal.insert-requires
-insert-requires c =
-    let none : Node → Tree = λ n. Tree.missing in
-    let apart = ap only_stream (sym c.as_slice.ensures.value) ∙ sym c.only_one.ensures ∙ c.in_default.is in
-    room_of_streams none c.args.low.now.phys_sm.slots c.args.low.now.names c.args.low.now.origin.0 (record { 0 = 0; 1 = 0 }) c.args.streams.items apart (c.requires.room none (record { 0 = 0; 1 = 0 }))
 
 pub returns-clause-made : goal.returns-clause-made
 returns-clause-made c f input =
