@@ -1,0 +1,5 @@
+pub mod ApartLemmas
+pub mod GroupLemmas
+pub mod DistinctLemmas
+pub mod ConditionLemmas
+pub mod NamedLemmas
