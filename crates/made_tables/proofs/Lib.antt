@@ -1,3 +1,5 @@
 pub mod Broken
 mod Alone
+mod Joins
 mod Mapped
+mod Narrow

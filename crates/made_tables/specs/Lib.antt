@@ -1,3 +1,4 @@
 pub mod Uncalled
 pub mod Uncalling
 pub mod Made
+pub mod Joinable

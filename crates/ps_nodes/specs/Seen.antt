@@ -4,8 +4,8 @@ use Rattle.std.proofs.Common.{lit≤}
 use Rattle.std.specs.declared.alloc.Global.{Global}
 use Rattle.std.specs.declared.vec.Vec.{Vec}
 use Rattle.kept_tables.specs.Kept.{rows_of_each}
+use Rattle.made_tables.specs.Joinable.{CanJoin}
 use Rattle.made_tables.specs.Made.{bare_node}
-use Rattle.ps_turns.specs.Results.{BreaksRows}
 use Rattle.made_tables.specs.Uncalled.{no_functions}
 use Rattle.node_states.specs.Stages.{stage_of}
 use Rattle.node_states.specs.Views.{NodeView}
@@ -14,10 +14,10 @@ use Rattle.ps_frame.specs.Tables.{Fields, Row}
 use Rattle.ps_frame.specs.declared.refusal.PolarsError.{PolarsError}
 use Rattle.ps_meaning.specs.Errors.{cause_error}
 use Rattle.ps_meaning.specs.Schemas.{names_of}
-use Rattle.ps_meaning.specs.Shape.{PhysicalKind, equi_join, filter_node, group_by_node, in_memory_map, in_memory_sink, in_memory_source, independent_select, multiplexer, negative_slice, ordered_union, reduce, select_node, simple_projection, stream_map, streaming_slice, with_row_index, zip_node}
+use Rattle.ps_meaning.specs.Shape.{PhysicalKind, equi_join, filter_node, group_by_node, in_memory_join, in_memory_map, in_memory_sink, in_memory_source, independent_select, multiplexer, negative_slice, ordered_union, reduce, select_node, simple_projection, stream_map, streaming_slice, with_row_index, zip_node}
 use Rattle.ps_meaning.specs.Sound.{HasInputs, HasReaders}
-use Rattle.ps_meaning.specs.Steps.{exprs_of, user}
-use Rattle.ps_nodes.specs.Exprs.{expr_shown}
+use Rattle.ps_meaning.specs.Steps.{JoinStep, exprs_of, user}
+use Rattle.ps_nodes.specs.Exprs.{expr_shown, join_shown}
 use Rattle.ps_nodes.specs.Fit.{CanMap}
 use Rattle.ps_nodes.specs.Kept.{rows_made}
 use Rattle.ps_nodes.specs.Reductions.{reduced}
@@ -29,6 +29,7 @@ use Rattle.ps_options.specs.declared.options.Options.{Options}
 use Rattle.ps_ports.specs.Ports.{Sides}
 use Rattle.ps_turns.specs.Keys.{distinct_keys}
 use Rattle.ps_turns.specs.Progress.{Progress, is_user_map, makes_table, taking}
+use Rattle.ps_turns.specs.Results.{BreaksRows}
 use Rattle.ps_turns.specs.Tables.{whole_tables}
 use Rattle.ps_turns.specs.Updates.{shape_fault, starts_giving, stored_tables}
 use Rattle.turn_laws.specs.Updating.{SeenNode, UpdatesTo, heads_seen}
@@ -52,6 +53,7 @@ kind_of (flow.NegativeSlice n) = negative_slice n.back n.length
 kind_of (flow.InMemoryMap n) = in_memory_map (step_of n.map)
 kind_of (flow.GroupBy n) = group_by_node (map expr_shown n.keys.items) (reduced (drop (length n.keys.items) (names_of n.output_schema)) (map expr_shown n.selectors.items) n.reductions.items)
 kind_of (flow.EquiJoin n) = equi_join (record { left_on = exprs_of (map expr_shown n.left_on.items); right_on = exprs_of (map expr_shown n.right_on.items); args = n.args })
+kind_of (flow.InMemoryJoin n) = in_memory_join (join_shown n.left_on.items n.right_on.items n.args)
 
 -- nothing was given, booked or stored
 abbrev pub nothing_behind : Progress
@@ -81,6 +83,7 @@ progress_of (flow.Reduce n) = record nothing_behind { stage = stage_of n.stage; 
 progress_of (flow.NegativeSlice n) =
     record nothing_behind { stage = stage_of n.stage; sent = n.made.sent; booked = n.booked; stores = rows_of_each n.input ∷ []; made = rows_made n.made.table }
 progress_of (flow.InMemoryMap n) = record nothing_behind { stage = stage_of n.stage; sent = n.made.sent; stores = (n.input.rows ∷ []) ∷ []; made = rows_made n.made.table }
+progress_of (flow.InMemoryJoin n) = record nothing_behind { stage = stage_of n.stage; sent = n.made.sent; stores = (n.left.rows ∷ []) ∷ (n.right.rows ∷ []) ∷ []; made = rows_made n.made.table }
 progress_of (flow.GroupBy n) = record nothing_behind { stage = stage_of n.stage; sent = n.sent; lists = lists_of (kind_of (flow.GroupBy n)) n.lists }
 progress_of (flow.EquiJoin n) = record nothing_behind { stage = stage_of n.stage; sent = n.sent }
 progress_of _ = nothing_behind
@@ -114,6 +117,7 @@ abbrev pub options_of : FlowNode → Options
 options_of (flow.InMemorySource n) = n.options
 options_of (flow.NegativeSlice n) = n.made.options
 options_of (flow.InMemoryMap n) = n.made.options
+options_of (flow.InMemoryJoin n) = n.made.options
 options_of (flow.GroupBy n) = n.options
 options_of _ = any_options
 
@@ -124,10 +128,16 @@ node_seen kind progress empties = record { node = bare_node kind []; schemas = [
 -- the schemas of its inputs, where it makes a table of these
 abbrev pub schemas_of : FlowNode → List Fields
 schemas_of (flow.InMemoryMap n) = n.input.schema ∷ []
+schemas_of (flow.InMemoryJoin n) = n.left.schema ∷ n.right.schema ∷ []
 schemas_of _ = []
 
+-- the schema of the table that it makes, where that has some of the columns alone
+abbrev pub asked_of : FlowNode → Fields
+asked_of (flow.InMemoryJoin n) = n.output_schema
+asked_of _ = []
+
 abbrev pub seen : FlowNode → SeenNode
-seen n = record (node_seen (kind_of n) (progress_of n) (empties_of n)) { schemas = schemas_of n }
+seen n = record (node_seen (kind_of n) (progress_of n) (empties_of n)) { node = bare_node (kind_of n) (asked_of n); schemas = schemas_of n }
 
 -- a node as its answer to what it is given reads it
 abbrev pub view_of : FlowNode → Sides → NodeView
@@ -141,6 +151,11 @@ IsNew kind n = seen n ≡ node_seen kind nothing_behind []
 abbrev pub IsNewKeeper : PhysicalKind → List Fields → List (List (List Row)) → FlowNode → Type 0
 IsNewKeeper kind schemas stores n = seen n ≡ record (node_seen kind (record nothing_behind { stores = stores }) []) { schemas = schemas }
 
+-- a new join of inputs of these schemas, which gives columns of another one
+abbrev pub IsNewJoin : JoinStep → (left right asked : Fields) → FlowNode → Type 0
+IsNewJoin j left right asked n =
+    seen n ≡ record { node = bare_node (in_memory_join j) asked; schemas = left ∷ right ∷ []; empties = []; progress = record nothing_behind { stores = ([] ∷ []) ∷ ([] ∷ []) ∷ [] } }
+
 -- a new zip of so many inputs
 pub record IsNewZip (extend : Bool) (inputs : ℕ) (n : ZipNode) : Type 0 where
   pub extends : n.null_extend ≡ extend
@@ -151,6 +166,7 @@ pub record IsNewZip (extend : Bool) (inputs : ℕ) (n : ZipNode) : Type 0 where
 -- it has so many inputs: a zip as many as it has stores and heads; and what makes a table of its inputs can make one
 abbrev pub HasInputsOf : FlowNode → ℕ → Type 0
 HasInputsOf (flow.InMemoryMap n) k = (k ≡ 1) × CanMap (step_of n.map) n.input.schema
+HasInputsOf (flow.InMemoryJoin n) k = (k ≡ 2) × CanJoin (join_shown n.left_on.items n.right_on.items n.args) n.left.schema n.right.schema n.output_schema
 HasInputsOf (flow.Zip n) k = (1 ≤ k) × (length n.came.items ≡ k) × (length n.heads.items ≡ k)
 HasInputsOf n k = HasInputs (kind_of n) k
 

@@ -24,6 +24,7 @@ word_of (flow.Zip n) = codes "zip"
 word_of (flow.Reduce n) = codes "reduce"
 word_of (flow.GroupBy n) = codes "group_by"
 word_of (flow.InMemoryMap n) = codes "in_memory_map"
+word_of (flow.InMemoryJoin n) = codes "in_memory_join"
 word_of (flow.EquiJoin n) = codes "equi_join"
 
 -- A source, and what acts as one, is cut for so many pieces from then on; others stay as they were.
@@ -31,6 +32,7 @@ abbrev pub IsToldOf : FlowNode → (pieces : ℕ) → FlowNode → Type 0
 IsToldOf (flow.InMemorySource a) k (flow.InMemorySource b) = IsCutFor k a.options b.options × (b ≡ record a { options = b.options })
 IsToldOf (flow.NegativeSlice a) k (flow.NegativeSlice b) = IsCutFor k a.made.options b.made.options × (b ≡ record a { made = record a.made { options = b.made.options } })
 IsToldOf (flow.InMemoryMap a) k (flow.InMemoryMap b) = IsCutFor k a.made.options b.made.options × (b ≡ record a { made = record a.made { options = b.made.options } })
+IsToldOf (flow.InMemoryJoin a) k (flow.InMemoryJoin b) = IsCutFor k a.made.options b.made.options × (b ≡ record a { made = record a.made { options = b.made.options } })
 IsToldOf a k b = b ≡ a
 
 -- the rows of a sink, in the order in which it stored them

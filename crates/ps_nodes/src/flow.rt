@@ -11,6 +11,7 @@ ghost use Rattle.turn_laws.specs.Updating.{stages_behind as stages_seen};
 use crate::equi_join::EquiJoinNode;
 use crate::filter::FilterNode;
 use crate::group_by::GroupByNode;
+use crate::in_memory_join::InMemoryJoinNode;
 use crate::in_memory_map::InMemoryMapNode;
 use crate::independent_select::InputIndependentSelectNode;
 use crate::map::MapNode;
@@ -52,6 +53,7 @@ pub enum FlowNode {
     Reduce(ReduceNode),
     GroupBy(GroupByNode),
     InMemoryMap(InMemoryMapNode),
+    InMemoryJoin(InMemoryJoinNode),
     EquiJoin(EquiJoinNode),
 }
 
@@ -102,6 +104,7 @@ impl ComputeNode for FlowNode {
             FlowNode::Reduce(_) => "reduce",
             FlowNode::GroupBy(_) => "group_by",
             FlowNode::InMemoryMap(_) => "in_memory_map",
+            FlowNode::InMemoryJoin(_) => "in_memory_join",
             FlowNode::EquiJoin(_) => "equi_join",
         }
     }
@@ -111,6 +114,7 @@ impl ComputeNode for FlowNode {
             FlowNode::InMemorySource(node) => node.cut_for(num_pipelines),
             FlowNode::NegativeSlice(node) => node.cut_for(num_pipelines),
             FlowNode::InMemoryMap(node) => node.cut_for(num_pipelines),
+            FlowNode::InMemoryJoin(node) => node.cut_for(num_pipelines),
             _ => (),
         }
     }
@@ -122,6 +126,7 @@ impl ComputeNode for FlowNode {
             FlowNode::Reduce(node) => node.stage.behind(),
             FlowNode::GroupBy(node) => node.stage.behind(),
             FlowNode::InMemoryMap(node) => node.stage.behind(),
+            FlowNode::InMemoryJoin(node) => node.stage.behind(),
             FlowNode::EquiJoin(node) => node.stage.behind(),
             _ => 0,
         }
@@ -169,6 +174,7 @@ impl ComputeNode for FlowNode {
                 Ok(())
             }
             FlowNode::InMemoryMap(node) => node.update(alloc, recv, send),
+            FlowNode::InMemoryJoin(node) => node.update(alloc, recv, send),
             FlowNode::EquiJoin(node) => {
                 node.update(recv, send);
                 Ok(())
@@ -190,6 +196,7 @@ impl ComputeNode for FlowNode {
             FlowNode::NegativeSlice(node) => node.stage == Stage::Taking,
             FlowNode::GroupBy(node) => node.stage == Stage::Taking,
             FlowNode::InMemoryMap(node) => node.stage == Stage::Taking,
+            FlowNode::InMemoryJoin(node) => node.stage == Stage::Taking,
             FlowNode::EquiJoin(node) => node.stage == Stage::Taking,
             _ => false,
         }

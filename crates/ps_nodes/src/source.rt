@@ -26,6 +26,7 @@ impl InMemorySourceNode {
     /// The source of this table, whose morsels are numbered from this number on.
     pub fn new(source: DataFrame, seq_offset: MorselSeq) -> InMemorySourceNode
         ensures new { IsNew (in_memory_source source) (flow.InMemorySource result) }
+        ensures seq_offset { result.seq_offset ≡ seq_offset }
         ensures cut { IsFirstCut result.options }
     {
         InMemorySourceNode {

@@ -1,5 +1,6 @@
 //! Expressions of nodes.
-ghost use Rattle.std.specs.Prelude.{◌≡◌, ℕ, Err, IfOk, IsSome, OnErr, Some};
+ghost use Rattle.std.specs.Prelude.{◌≡◌, ℕ, Err, IfOk, IsSome, OnErr, OnOk, Some};
+ghost use Rattle.ps_copies.specs.Copies.{KeepsTrees};
 ghost use Rattle.ps_frame.specs.Eval.{eval};
 ghost use Rattle.ps_frame.specs.Evaluated.{StandsFor};
 ghost use Rattle.ps_frame.specs.Tables.{whole};
@@ -58,6 +59,24 @@ impl StreamExpr {
             return Err(PolarsError::OutOfMemory);
         };
         Ok(StreamExpr { exprs, root, name })
+    }
+
+    /// A copy of the expression in another arena, behind what stands there.
+    ///
+    /// Fails only for want of memory; the other arena may then have grown.
+    pub(crate) fn copy_into(&self, alloc: Global, into: &mut Arena<AExpr>) -> PolarsResult<ExprIR>
+        ensures tree { IfOk result (λ e. tree_at into.new.items e.node ≡ (expr_shown self.now).1) }
+        ensures kept { OnOk result (KeepsTrees into.old.items into.new.items) }
+        ensures memory { OnErr result (result ≡ Err PolarsError.OutOfMemory) }
+    {
+        // No `?`: the error of a copy is another, and it stands for want of memory alone.
+        let Ok(node) = copy_expr(alloc, self.root, &self.exprs, into) else {
+            return Err(PolarsError::OutOfMemory);
+        };
+        let Ok(output_name) = self.name.try_clone(alloc) else {
+            return Err(PolarsError::OutOfMemory);
+        };
+        Ok(ExprIR { node, output_name })
     }
 
     /// The column of the expression over a table over which it has a kind: a faulty cell holds one of that cell's causes,

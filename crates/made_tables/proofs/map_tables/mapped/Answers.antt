@@ -14,11 +14,11 @@ returns-in-Ok-clause-table g c =
     let step = step_of c.args.map.now in
     let at : c.default.result.0 ≡ nowhere = omega arith in
     let few : length c.in-Ok.table.rows ≤ max_rows = omega arith in
-    made_by_map F step c.args.input c.in-Ok.table (subst (λ n. GivesFrame F n step (c.args.input ∷ []) c.in-Ok.table) at c.in-Ok.ensures.table) few
+    made_by_map F step (c.args.input ∷ []) c.in-Ok.table (subst (λ n. GivesFrame F n step (c.args.input ∷ []) c.in-Ok.table) at c.in-Ok.ensures.table) few
 
 pub returns-in-Err-clause-fault : goal.returns-in-Err-clause-fault
 returns-in-Err-clause-fault g c =
     let F = g.F.Functions.told c.args.functions.now in
     let step = step_of c.args.map.now in
     let at : c.default.result.0 ≡ nowhere = omega arith in
-    broken_by_map F step c.args.input c.in-Err.error (subst (λ n. MayFault F n step (c.args.input ∷ []) c.in-Err.error) at c.in-Err.ensures.fault)
+    broken_by_map F step (c.args.input ∷ []) c.in-Err.error (subst (λ n. MayFault F n step (c.args.input ∷ []) c.in-Err.error) at c.in-Err.ensures.fault)
