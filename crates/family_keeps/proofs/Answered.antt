@@ -35,14 +35,14 @@ use Rattle.world_laws.proofs.Agree.{from_map}
 use Rattle.world_laws.proofs.InOrder.{contains_cases, contains_map, none_in_nil}
 use Rattle.world_laws.proofs.PassingPorts.{same_number}
 use Rattle.world_laws.proofs.Induction.{opening_shape}
-use Rattle.world_families.proofs.Sent.{node_of}
+use Rattle.family_pipes.proofs.Sent.{node_of}
 use Rattle.passing_runs.proofs.Kept.{AllPassing}
 use Rattle.passing_runs.proofs.Moves.{other_claim, own_claim}
 use Rattle.passing_runs.proofs.Reached.{reached_passing}
 use Rattle.passing_runs.proofs.Slots.{Fills, fills_more, fills_same, fills_set, passes_on}
 use Rattle.passing_runs.proofs.Still.{IsStill, close_still, drops_still, end_still, opens_still, still_then, updates_still}
-use Rattle.family_keeps.proofs.Goes.{awaits, change_goes, hits}
-use Rattle.family_keeps.proofs.Reaching.{fresh_reached, reached_more}
+use Rattle.orderly_worlds.proofs.Goes.{awaits, change_goes, hits}
+use Rattle.orderly_worlds.proofs.Reaching.{fresh_reached, reached_more}
 
 -- whatever became of the output
 abbrev pub AllAnswered : Functions → ℕ → PhysicalNode → Fields → World → Type 0

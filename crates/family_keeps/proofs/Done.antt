@@ -20,18 +20,18 @@ use Rattle.world_facts.proofs.Slots.{set_here, set_other}
 use Rattle.world_laws.proofs.Agree.{from_map}
 use Rattle.world_laws.proofs.Answered.{in_shape}
 use Rattle.world_laws.proofs.InOrder.{contains_map}
-use Rattle.world_families.proofs.Complete.{complete}
-use Rattle.world_families.proofs.Sent.{node_of}
-use Rattle.world_families.proofs.SourceSteps.{same_node}
+use Rattle.family_pipes.proofs.Complete.{complete}
+use Rattle.family_pipes.proofs.Sent.{node_of}
+use Rattle.family_pipes.proofs.SourceSteps.{same_node}
 use Rattle.world_families.specs.Work.{Enters, IsComplete, Leaves}
-use Rattle.family_keeps.proofs.Goes.{GoesOn, IsTakenBy, IsTakenOf, NoneTaken}
-use Rattle.family_keeps.proofs.Orderly.{Orderly, complete_rests, complete_turned}
-use Rattle.family_keeps.proofs.PortPipes.{given_input}
-use Rattle.family_keeps.proofs.Says.{WhyDone, input_done, is_over, reader_done, reader_pipe, sent_all}
-use Rattle.family_keeps.proofs.Seen.{Seen, StandsAt, TakenElsewhere, claims, pulls_in, stands_still}
-use Rattle.family_keeps.proofs.Stands.{stored_progress}
-use Rattle.family_keeps.proofs.Turned.{Turned, answer, turned, turned_from}
-use Rattle.family_keeps.specs.Kinds.{HandsOn}
+use Rattle.orderly_worlds.proofs.Goes.{GoesOn, IsTakenBy, IsTakenOf, NoneTaken}
+use Rattle.orderly_worlds.proofs.Orderly.{Orderly, complete_rests, complete_turned}
+use Rattle.orderly_worlds.proofs.PortPipes.{given_input}
+use Rattle.orderly_worlds.proofs.Says.{WhyDone, input_done, is_over, reader_done, reader_pipe, sent_all}
+use Rattle.orderly_worlds.proofs.Seen.{Seen, StandsAt, TakenElsewhere, claims, pulls_in, stands_still}
+use Rattle.orderly_worlds.proofs.Stands.{stored_progress}
+use Rattle.orderly_worlds.proofs.Turned.{Turned, answer, turned, turned_from}
+use Rattle.world_families.specs.Kinds.{HandsOn}
 
 abbrev pub DoneFits : World → ℕ → Type 0
 DoneFits w n = (q : Pipe) → Enters w n q → is_done q.wire.receive_state ≡ true → IsComplete q ⊎ HasNoUse w n

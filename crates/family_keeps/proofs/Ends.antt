@@ -5,7 +5,7 @@ use Rattle.ps_frame.specs.Tables.{Row}
 use Rattle.ps_world.specs.Booking.{EndsAfter, PassesAfter}
 use Rattle.ps_world.specs.World.{rows_in_order}
 use Rattle.passing_runs.proofs.Slots.{Fills, Places}
-use Rattle.family_keeps.proofs.ReadRows.{no_slot}
+use Rattle.orderly_worlds.proofs.ReadRows.{no_slot}
 
 module _ (A : (before : ℕ) → List Row → List Row → Type 0) (Full : ℕ → Type 0) where
   -- what ended so goes on to do, while what came is filled; a complete input gets nothing more

@@ -23,20 +23,20 @@ use Rattle.world_facts.proofs.ClaimedOnce.{replay_shape}
 use Rattle.world_laws.proofs.Answered.{in_shape}
 use Rattle.world_laws.proofs.Induction.{opening_shape}
 use Rattle.world_laws.proofs.Shapes.{step_keeps, updates_keep as shapes_kept}
-use Rattle.world_families.proofs.Begins.{begins}
-use Rattle.world_families.proofs.Complete.{complete, whole}
-use Rattle.world_families.proofs.Sent.{node_of}
-use Rattle.world_families.proofs.SourceLaw.{from_single}
-use Rattle.world_families.proofs.SourceSteps.{same_node}
+use Rattle.family_pipes.proofs.Begins.{begins}
+use Rattle.family_pipes.proofs.Complete.{complete, whole}
+use Rattle.family_pipes.proofs.Sent.{node_of}
+use Rattle.family_fronts.proofs.SourceLaw.{from_single}
+use Rattle.family_pipes.proofs.SourceSteps.{same_node}
 use Rattle.passing_runs.proofs.Still.{IsStill, still_then, updates_still}
 use Rattle.family_keeps.proofs.Done.{DoneFits, StaysOver, done_on, done_step, done_turned, wire_joins}
-use Rattle.family_keeps.proofs.Orderly.{Orderly}
-use Rattle.family_keeps.proofs.Reaching.{fill_orderly, filled_is, fresh_orderly, fresh_reached, MarkedFrom, open_marks, orderly_step, reached_more, still_shut, update_orderly, updates_orderly}
-use Rattle.family_keeps.proofs.Seen.{Seen, end_seen, step_seen}
-use Rattle.family_keeps.proofs.Stands.{Stands, StandsBefore, as_it_stood, phase_stands}
-use Rattle.family_keeps.proofs.Turned.{turned, updated_is}
+use Rattle.orderly_worlds.proofs.Orderly.{Orderly}
+use Rattle.orderly_worlds.proofs.Reaching.{fill_orderly, filled_is, fresh_orderly, fresh_reached, MarkedFrom, open_marks, orderly_step, reached_more, still_shut, update_orderly, updates_orderly}
+use Rattle.orderly_worlds.proofs.Seen.{Seen, end_seen, step_seen}
+use Rattle.orderly_worlds.proofs.Stands.{Stands, StandsBefore, as_it_stood, phase_stands}
+use Rattle.orderly_worlds.proofs.Turned.{turned, updated_is}
 use Rattle.family_keeps.proofs.Turns.{Leaves as LeavesProgress, fill_leaves, leaves_stand, turn_leaves}
-use Rattle.family_keeps.specs.Kinds.{HandsOn}
+use Rattle.world_families.specs.Kinds.{HandsOn}
 
 -- a reached world, or one that stands as a reached one, but for states of ports and progress
 abbrev pub IsNear : Functions → World → Type 0

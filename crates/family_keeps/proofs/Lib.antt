@@ -1,13 +1,4 @@
-pub mod Goes
-pub mod Stands
-pub mod Turned
-pub mod PortPipes
-pub mod Orderly
-pub mod Reaching
-pub mod Seen
-pub mod Says
 pub mod Done
-pub mod ReadRows
 pub mod Turns
 pub mod Sinks
 pub mod Unions

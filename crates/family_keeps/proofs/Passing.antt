@@ -15,18 +15,18 @@ use Rattle.ps_world.specs.Updates.{empty_outs, given_at}
 use Rattle.ps_world.specs.World.{Node, Pipe, World, heads_of, multiplexes, rows_in_order}
 use Rattle.world_claims.specs.Numbering.{Known, last_given, passes_numbers}
 use Rattle.world_facts.proofs.Slots.{set_here}
-use Rattle.world_families.proofs.Complete.{filled}
+use Rattle.family_pipes.proofs.Complete.{filled}
 use Rattle.world_families.specs.Work.{Enters, IsComplete, Leaves}
 use Rattle.passing_fronts.proofs.PassingKinds.{single}
 use Rattle.passing_runs.proofs.Slots.{Came, Fills, Places, fills_same}
 use Rattle.family_keeps.proofs.Done.{DoneFits, sent_cases}
 use Rattle.family_keeps.proofs.Ends.{ends_of, ends_on}
-use Rattle.family_keeps.proofs.Goes.{GoesOn}
-use Rattle.family_keeps.proofs.Orderly.{Newly, Orderly, all_done_at, complete_before, complete_rests, complete_turned, newly}
-use Rattle.family_keeps.proofs.PortPipes.{given_input, given_output}
-use Rattle.family_keeps.proofs.ReadRows.{came_to, take_fills}
-use Rattle.family_keeps.proofs.Says.{WhyAll, all_sent, has_rows, passing_all, was_read}
-use Rattle.family_keeps.proofs.Turned.{Turned, answer, turned, turned_from}
+use Rattle.orderly_worlds.proofs.Goes.{GoesOn}
+use Rattle.orderly_worlds.proofs.Orderly.{Newly, Orderly, all_done_at, complete_before, complete_rests, complete_turned, newly}
+use Rattle.orderly_worlds.proofs.PortPipes.{given_input, given_output}
+use Rattle.orderly_worlds.proofs.ReadRows.{came_to, take_fills}
+use Rattle.orderly_worlds.proofs.Says.{WhyAll, all_sent, has_rows, passing_all, was_read}
+use Rattle.orderly_worlds.proofs.Turned.{Turned, answer, turned, turned_from}
 
 -- a complete output ends where its input does, or the node gives no more
 abbrev pub EndsWhole : Functions → World → ℕ → PhysicalNode → Fields → Type 0

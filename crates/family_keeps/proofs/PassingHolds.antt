@@ -21,8 +21,8 @@ use Rattle.world_claims.specs.Numbering.{Known}
 use Rattle.world_facts.proofs.Placing.{has_readers, inputs_given}
 use Rattle.world_laws.proofs.Agree.{from_map}
 use Rattle.world_laws.proofs.Answered.{in_shape}
-use Rattle.world_families.proofs.Begins.{begins}
-use Rattle.world_families.proofs.SourceSteps.{same_node}
+use Rattle.family_pipes.proofs.Begins.{begins}
+use Rattle.family_pipes.proofs.SourceSteps.{same_node}
 use Rattle.world_families.specs.Holds.{Holds}
 use Rattle.world_families.specs.Onward.{HoldsPassing, IsMorselWork}
 use Rattle.world_families.specs.Work.{Enters, Leaves, asked_by, work_of}
@@ -33,20 +33,20 @@ use Rattle.passing_runs.proofs.Reached.{reached_passing}
 use Rattle.passing_runs.proofs.Still.{still_keeps}
 use Rattle.family_keeps.proofs.Answered.{AllAnswered, all_answered, still_answered}
 use Rattle.family_keeps.proofs.Done.{DoneFits}
-use Rattle.family_keeps.proofs.Goes.{IsTakenBy, IsTakenOf, NoneTaken}
+use Rattle.orderly_worlds.proofs.Goes.{IsTakenBy, IsTakenOf, NoneTaken}
 use Rattle.family_keeps.proofs.Holding.{IsNear, OwnLaw, keeps_reached, near_reached}
-use Rattle.family_keeps.proofs.Orderly.{Orderly}
+use Rattle.orderly_worlds.proofs.Orderly.{Orderly}
 use Rattle.family_keeps.proofs.Passing.{EndsWhole, ends_step, ends_turned}
-use Rattle.family_keeps.proofs.Reaching.{orderly_reached}
-use Rattle.family_keeps.proofs.Says.{reader_pipe}
-use Rattle.family_keeps.proofs.Seen.{Seen, TakenElsewhere, claims, pulls_in, stands_still}
+use Rattle.orderly_worlds.proofs.Reaching.{orderly_reached}
+use Rattle.orderly_worlds.proofs.Says.{reader_pipe}
+use Rattle.orderly_worlds.proofs.Seen.{Seen, TakenElsewhere, claims, pulls_in, stands_still}
 use Rattle.family_keeps.proofs.SinkLaw.{pipes_hold}
 use Rattle.family_keeps.proofs.Sinks.{first_input}
-use Rattle.family_keeps.proofs.Stands.{Stands}
-use Rattle.family_keeps.proofs.Turned.{turned}
+use Rattle.orderly_worlds.proofs.Stands.{Stands}
+use Rattle.orderly_worlds.proofs.Turned.{turned}
 use Rattle.family_keeps.proofs.Turns.{turn_leaves}
 use Rattle.family_keeps.proofs.UnionTurns.{mark_of, unmark}
-use Rattle.family_keeps.specs.Kinds.{HandsOn}
+use Rattle.world_families.specs.Kinds.{HandsOn}
 
 -- the rows before a morsel are those that stand in front of it
 stands_read : (got : List (Option (List Row))) (k : ℕ) (front a : List Row) → StandsAt got k front a → (front ≡ rows_in_order (take k got)) × (slice_get got k ≡ Some (Some a))

@@ -17,18 +17,18 @@ use Rattle.world_facts.proofs.FromFacts.{forward}
 use Rattle.world_laws.proofs.Induction.{opening_shape}
 use Rattle.world_laws.proofs.OneChoice.{one_choice}
 use Rattle.world_laws.proofs.Shapes.{step_keeps}
-use Rattle.world_families.proofs.Begins.{begins}
-use Rattle.world_families.proofs.FrontsLaw.{sinks_justified}
-use Rattle.world_families.proofs.SourceLaw.{selects_justified, sources_justified}
-use Rattle.world_families.proofs.SourceOpens.{sources_keep}
-use Rattle.world_families.proofs.UnionLaw.{unions_justified}
+use Rattle.family_pipes.proofs.Begins.{begins}
+use Rattle.family_fronts.proofs.FrontsLaw.{sinks_justified}
+use Rattle.family_fronts.proofs.SourceLaw.{selects_justified, sources_justified}
+use Rattle.source_keeps.proofs.SourceOpens.{sources_keep}
+use Rattle.family_fronts.proofs.UnionLaw.{unions_justified}
 use Rattle.world_families.specs.Holds.{Holds}
 use Rattle.world_families.specs.Sources.{IsSource}
 use Rattle.passing_fronts.proofs.PassingLaw.{passing_justified}
 use Rattle.family_keeps.proofs.PassingHolds.{passing_nodes_hold}
 use Rattle.family_keeps.proofs.SinkLaw.{sinks_hold}
 use Rattle.family_keeps.proofs.UnionLaw.{unions_hold}
-use Rattle.family_keeps.specs.Kinds.{IsStreaming}
+use Rattle.world_families.specs.Kinds.{IsStreaming}
 
 module _ (F : Functions) where
   -- sources keep it along every run

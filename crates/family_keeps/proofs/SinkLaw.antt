@@ -14,19 +14,19 @@ use Rattle.ps_world.specs.World.{wires_of, Node, Pipe, World, shape_of}
 use Rattle.world_claims.proofs.ReachedFacts.{known_opening}
 use Rattle.world_laws.proofs.Agree.{from_map}
 use Rattle.world_laws.proofs.Answered.{in_shape}
-use Rattle.world_families.proofs.Begins.{begins}
+use Rattle.family_pipes.proofs.Begins.{begins}
 use Rattle.world_families.proofs.Members.{nothing_is}
 use Rattle.world_families.specs.Holds.{Holds, HoldsOfKind}
 use Rattle.world_families.specs.Keepers.{Stores}
 use Rattle.world_families.specs.Work.{PipesHold}
 use Rattle.family_keeps.proofs.Done.{DoneFits}
 use Rattle.family_keeps.proofs.Holding.{OwnLaw, keeps_reached}
-use Rattle.family_keeps.proofs.Orderly.{Orderly}
-use Rattle.family_keeps.proofs.ReadRows.{reads_marked, reads_turned}
-use Rattle.family_keeps.proofs.Reaching.{Marked, orderly_reached}
+use Rattle.orderly_worlds.proofs.Orderly.{Orderly}
+use Rattle.orderly_worlds.proofs.ReadRows.{reads_marked, reads_turned}
+use Rattle.orderly_worlds.proofs.Reaching.{Marked, orderly_reached}
 use Rattle.family_keeps.proofs.Sinks.{SinkStores, sink_input, sink_step, sink_still, stores_all}
-use Rattle.family_keeps.proofs.Turned.{turned}
-use Rattle.family_keeps.specs.Kinds.{HandsOn}
+use Rattle.orderly_worlds.proofs.Turned.{turned}
+use Rattle.world_families.specs.Kinds.{HandsOn}
 
 abbrev IsSink : PhysicalKind → Type 0
 IsSink kind = kind ≡ in_memory_sink

@@ -20,14 +20,14 @@ use Rattle.world_claims.specs.Numbering.{Known}
 use Rattle.world_facts.proofs.CutOff.{both_true}
 use Rattle.world_laws.proofs.Answered.{in_shape}
 use Rattle.world_laws.proofs.PassingPorts.{same_number}
-use Rattle.world_families.proofs.Inputs.{input_of}
+use Rattle.family_pipes.proofs.Inputs.{input_of}
 use Rattle.world_families.proofs.Members.{nothing_is}
 use Rattle.world_families.specs.Keepers.{Stores, StoresAll}
 use Rattle.world_families.specs.Work.{Enters, rows_read}
-use Rattle.family_keeps.proofs.Goes.{GoesOn, IsTakenBy, IsTakenOf}
-use Rattle.family_keeps.proofs.ReadRows.{ReadsOn, came_to, reads_still, rows_more, stored_more, take_fills}
-use Rattle.family_keeps.proofs.Seen.{Seen, claims, pulls_in, stands_still}
-use Rattle.family_keeps.proofs.Stands.{stored_progress, Stands, zips}
+use Rattle.orderly_worlds.proofs.Goes.{GoesOn, IsTakenBy, IsTakenOf}
+use Rattle.orderly_worlds.proofs.ReadRows.{ReadsOn, came_to, reads_still, rows_more, stored_more, take_fills}
+use Rattle.orderly_worlds.proofs.Seen.{Seen, claims, pulls_in, stands_still}
+use Rattle.orderly_worlds.proofs.Stands.{stored_progress, Stands, zips}
 
 -- it has a store, and in it what it read
 pub record SinkStores (w : World) (n : ℕ) (node : Node) : Type 0 where

@@ -10,7 +10,7 @@ use Rattle.ps_turns.specs.Progress.{Progress}
 use Rattle.ps_turns.specs.Updates.{Fills, Makes, Turns}
 use Rattle.ps_world.specs.World.{Node, World}
 use Rattle.world_claims.proofs.Beside.{set_from}
-use Rattle.family_keeps.proofs.Stands.{Stands, StandsBefore, as_it_stood}
+use Rattle.orderly_worlds.proofs.Stands.{Stands, StandsBefore, as_it_stood}
 
 pub record Leaves (a b : Progress) : Type 0 where
   pub sent : b.sent ≡ a.sent

@@ -9,16 +9,16 @@ use Rattle.ps_turns.specs.Progress.{is_multiplexer}
 use Rattle.ps_world.specs.Opening.{Reaches, opening}
 use Rattle.ps_world.specs.World.{World, schemas_for, shape_of}
 use Rattle.world_laws.proofs.Answered.{in_shape}
-use Rattle.world_families.proofs.Begins.{begins}
+use Rattle.family_pipes.proofs.Begins.{begins}
 use Rattle.world_families.specs.Holds.{Holds, HoldsOfKind}
 use Rattle.world_families.specs.Unions.{HoldsUnion}
 use Rattle.family_keeps.proofs.Holding.{OwnLaw, keeps_reached}
-use Rattle.family_keeps.proofs.Reaching.{orderly_reached}
+use Rattle.orderly_worlds.proofs.Reaching.{orderly_reached}
 use Rattle.family_keeps.proofs.SinkLaw.{pipes_hold}
 use Rattle.family_keeps.proofs.Turns.{turn_leaves}
 use Rattle.family_keeps.proofs.Unions.{still_union, union_step}
 use Rattle.family_keeps.proofs.UnionTurns.{union_phase, union_turned}
-use Rattle.family_keeps.specs.Kinds.{HandsOn}
+use Rattle.world_families.specs.Kinds.{HandsOn}
 use Rattle.ps_world.specs.Updates.{given_at}
 
 abbrev IsUnion : PhysicalKind → Type 0

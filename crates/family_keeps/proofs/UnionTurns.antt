@@ -21,19 +21,19 @@ use Rattle.world_facts.proofs.CutOff.{both_true}
 use Rattle.world_facts.proofs.DropsDone.{drops_are_done}
 use Rattle.world_facts.proofs.Placing.{has_readers, in_place}
 use Rattle.world_laws.proofs.Agree.{from_map, reader_says}
-use Rattle.world_families.proofs.Complete.{complete}
-use Rattle.world_families.proofs.Inputs.{enters, inputs_long}
+use Rattle.family_pipes.proofs.Complete.{complete}
+use Rattle.family_pipes.proofs.Inputs.{enters, inputs_long}
 use Rattle.world_families.proofs.Members.{nothing_is}
-use Rattle.world_families.proofs.Outputs.{gives_keep}
+use Rattle.family_pipes.proofs.Outputs.{gives_keep}
 use Rattle.world_families.specs.Sources.{KeepsNone}
 use Rattle.world_families.specs.Unions.{HoldsUnion, morsels_read}
 use Rattle.world_families.specs.Work.{AllComplete, Enters, IsComplete, Leaves}
 use Rattle.family_keeps.proofs.Done.{DoneFits, sent_cases}
-use Rattle.family_keeps.proofs.Orderly.{Newly, Orderly, all_done_at, complete_turned, newly}
-use Rattle.family_keeps.proofs.PortPipes.{given_input, given_output}
-use Rattle.family_keeps.proofs.Says.{unions_all}
-use Rattle.family_keeps.proofs.Stands.{Stands}
-use Rattle.family_keeps.proofs.Turned.{Turned, answer, turned, turned_from}
+use Rattle.orderly_worlds.proofs.Orderly.{Newly, Orderly, all_done_at, complete_turned, newly}
+use Rattle.orderly_worlds.proofs.PortPipes.{given_input, given_output}
+use Rattle.orderly_worlds.proofs.Says.{unions_all}
+use Rattle.orderly_worlds.proofs.Stands.{Stands}
+use Rattle.orderly_worlds.proofs.Turned.{Turned, answer, turned, turned_from}
 use Rattle.family_keeps.proofs.Unions.{AtEach, UnionWork, read_same, same_schemas, union_work}
 
 -- a pipe beside the one before that got and gave nothing

@@ -21,20 +21,20 @@ use Rattle.world_facts.proofs.CutOff.{both_true}
 use Rattle.world_facts.proofs.Slots.{at_end}
 use Rattle.world_laws.proofs.PassingPorts.{same_number, was_kept}
 use Rattle.world_laws.proofs.InOrder.{contains_first, contains_later}
-use Rattle.world_families.proofs.Complete.{in_no_phase}
-use Rattle.world_families.proofs.Inputs.{enters, inputs_long}
+use Rattle.family_pipes.proofs.Complete.{in_no_phase}
+use Rattle.family_pipes.proofs.Inputs.{enters, inputs_long}
 use Rattle.world_families.proofs.Members.{nothing_is}
-use Rattle.world_families.proofs.Outputs.{MayCome, Onto, gives_keep, was_complete}
-use Rattle.world_families.proofs.SourceSteps.{StepOf}
+use Rattle.family_pipes.proofs.Outputs.{MayCome, Onto, gives_keep, was_complete}
+use Rattle.family_pipes.proofs.SourceSteps.{StepOf}
 use Rattle.world_families.specs.Sources.{KeepsNone}
 use Rattle.world_families.specs.Unions.{HoldsUnion, morsels_read}
 use Rattle.world_families.specs.Work.{AllComplete, Enters, Gives, IsComplete, Leaves, Work, asked_by, work_of}
-use Rattle.family_keeps.proofs.Goes.{Goes, GoesOn, IsTakenBy, IsTakenOf, NoneTaken}
-use Rattle.family_keeps.proofs.Orderly.{Orderly, complete_rests}
-use Rattle.family_keeps.proofs.PortPipes.{input_pipe}
-use Rattle.family_keeps.proofs.ReadRows.{came_to, take_fills, take_more}
-use Rattle.family_keeps.proofs.Seen.{OutsOrNew, OutsWere, Seen, TakenElsewhere, claims, pulls_in, stands_still}
-use Rattle.family_keeps.proofs.Stands.{Stands}
+use Rattle.orderly_worlds.proofs.Goes.{Goes, GoesOn, IsTakenBy, IsTakenOf, NoneTaken}
+use Rattle.orderly_worlds.proofs.Orderly.{Orderly, complete_rests}
+use Rattle.orderly_worlds.proofs.PortPipes.{input_pipe}
+use Rattle.orderly_worlds.proofs.ReadRows.{came_to, take_fills, take_more}
+use Rattle.orderly_worlds.proofs.Seen.{OutsOrNew, OutsWere, Seen, TakenElsewhere, claims, pulls_in, stands_still}
+use Rattle.orderly_worlds.proofs.Stands.{Stands}
 use Rattle.passing_runs.proofs.Slots.{Came}
 
 -- LISTS OF PIPES, PLACE BY PLACE

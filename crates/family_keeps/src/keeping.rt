@@ -1,23 +1,14 @@
 // What every reached world keeps of nodes that stream, as theorems of functions that do nothing.
-ghost use Rattle.std.specs.Prelude.{◌≡◌, ◌||◌, Contains, Some, length, slice_get, true, ℕ};
+ghost use Rattle.std.specs.Prelude.{◌≡◌, Some, slice_get, ℕ};
 ghost use Rattle.ps_frame.specs.Functions.{Functions};
 ghost use Rattle.ps_meaning.specs.Shape.{PhysicalNode, Shape};
 ghost use Rattle.ps_meaning.specs.Sound.{IsSound, input_schemas};
 ghost use Rattle.ps_options.specs.declared.options.Options.{Options};
-ghost use Rattle.ps_ports.specs.Ports.{is_done};
-ghost use Rattle.ps_world.specs.Laws.{EndsAgree, Justified, ServedByChoice, sent_at, sent_to};
+ghost use Rattle.ps_world.specs.Laws.{Justified, ServedByChoice, sent_at, sent_to};
 ghost use Rattle.ps_world.specs.Opening.{Reaches};
-ghost use Rattle.ps_world.specs.World.{Pipe, World, shape_of};
+ghost use Rattle.ps_world.specs.World.{World, shape_of};
 ghost use Rattle.world_families.specs.Holds.{Holds};
-ghost use Rattle.world_families.specs.Work.{IsComplete};
-ghost use Rattle.family_keeps.specs.Kinds.{IsStreaming};
-
-/// In every reached world, whatever its nodes: both ends of a pipe agree on what is done while a phase is open; where a reader is done, its sender is or the pipe is unread; and a pipe that has got all that it ever will was read to its end.
-pub fn reached_worlds_are_orderly()
-    ensures agree { (F : Functions) (shape : Shape) (o : Options) (w : World) → IsSound F shape → Reaches F shape o w → w.is_open ≡ true → EndsAgree w }
-    ensures unread { (F : Functions) (shape : Shape) (o : Options) (w : World) (p : Pipe) → IsSound F shape → Reaches F shape o w → Contains w.pipes p → is_done p.wire.receive_state ≡ true → (is_done p.wire.send_state || p.is_unread) ≡ true }
-    ensures read { (F : Functions) (shape : Shape) (o : Options) (w : World) (p : Pipe) → IsSound F shape → Reaches F shape o w → Contains w.pipes p → IsComplete p → p.next ≡ length p.got }
-{}
+ghost use Rattle.world_families.specs.Kinds.{IsStreaming};
 
 /// What its family keeps holds in every reached world of each source, select, filter, projection, streamable map, row index, slice, union and sink, whatever the other nodes.
 pub fn streaming_nodes_hold()

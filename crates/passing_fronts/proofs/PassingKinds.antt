@@ -6,7 +6,7 @@ use Rattle.ps_meaning.specs.Sound.{HasInputs}
 use Rattle.ps_turns.specs.Progress.{is_multiplexer}
 use Rattle.ps_world.specs.Booking.{IsPassing}
 use Rattle.ps_world.specs.World.{Node, World}
-use Rattle.world_families.proofs.Sent.{is_sink}
+use Rattle.family_pipes.proofs.Sent.{is_sink}
 use Rattle.world_families.specs.Holds.{HoldsOfKind}
 use Rattle.world_families.specs.Onward.{HoldsPassing}
 

@@ -12,10 +12,10 @@ use Rattle.world_claims.specs.Numbering.{Known}
 use Rattle.world_facts.proofs.Placing.{map_length}
 use Rattle.world_laws.proofs.OnwardLaw.{onward-justified}
 use Rattle.passing_laws.proofs.SoundPieces.{sound-goes-on}
-use Rattle.world_families.proofs.FrontsLaw.{only_one}
-use Rattle.world_families.proofs.Inputs.{enters, inputs_long, sent_to_is}
-use Rattle.world_families.proofs.Sent.{node_of, one_table}
-use Rattle.world_families.proofs.SourceLaw.{from_single}
+use Rattle.family_fronts.proofs.FrontsLaw.{only_one}
+use Rattle.family_pipes.proofs.Inputs.{enters, inputs_long, sent_to_is}
+use Rattle.family_pipes.proofs.Sent.{node_of, one_table}
+use Rattle.family_fronts.proofs.SourceLaw.{from_single}
 use Rattle.world_families.specs.Holds.{Holds}
 use Rattle.world_families.specs.Onward.{HoldsPassing}
 use Rattle.world_families.specs.Work.{Enters, Leaves}

@@ -3,4 +3,3 @@ pub mod Kept
 pub mod Still
 pub mod Moves
 pub mod Reached
-pub mod Faults

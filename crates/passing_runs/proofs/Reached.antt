@@ -13,8 +13,7 @@ use Rattle.ps_turns.specs.Progress.{Progress}
 use Rattle.ps_turns.specs.Results.{IsResult}
 use Rattle.ps_turns.specs.Tasks.{Answer, Piece, bad, good, partial}
 use Rattle.ps_world.specs.Answers.{answered}
-use Rattle.ps_world.specs.Booking.{FaultsByPart, GivesAfter, GivesFewer, GoesOn, HasBooked, IsPassing, NeverGrows, PassesAfter}
-use Rattle.ps_world.specs.Laws.{Faults, Overflows, sent_by}
+use Rattle.ps_world.specs.Booking.{GivesAfter, GoesOn, HasBooked, IsPassing, PassesAfter}
 use Rattle.ps_world.specs.Claims.{after_claim, before_drops, claim_at}
 use Rattle.ps_world.specs.Opening.{Reaches, fresh_node, fresh_pipe, opening, pipes_from, pipes_to}
 use Rattle.ps_world.specs.Step.{Replays, Steps}
@@ -25,7 +24,6 @@ use Rattle.world_laws.proofs.PassingPorts.{was_kept}
 use Rattle.world_laws.proofs.Shapes.{step_keeps}
 use Rattle.world_claims.proofs.ReachedFacts.{known_opening, known_step}
 use Rattle.world_claims.specs.Numbering.{Known}
-use Rattle.passing_runs.proofs.Faults.{of_piece}
 use Rattle.passing_runs.proofs.Kept.{AllPassing, taken_rows}
 use Rattle.passing_runs.proofs.Moves.{hand_in, other_claim, other_pull, own_claim}
 use Rattle.passing_runs.proofs.Still.{IsStill, close_still, drops_still, end_still, opens_still, partial_still, same_node, still_keeps, still_then, updates_still}
@@ -76,11 +74,11 @@ fresh_at [] n node e = absurd (let no : None ≡ Some node = e in cc)
 fresh_at (p ∷ ps) zero node e = let both : Some (fresh_node p) ≡ Some node = e in let is : fresh_node p ≡ node = cc in ap (λ (x : Node). x.progress.booked) (sym is)
 fresh_at (p ∷ ps) (suc n) node e = fresh_at ps n node e
 
-fresh_shape : (shape : Shape) → map (λ (x : Node). x.node) (map fresh_node shape) ≡ shape
+pub fresh_shape : (shape : Shape) → map (λ (x : Node). x.node) (map fresh_node shape) ≡ shape
 fresh_shape [] = refl
 fresh_shape (p ∷ ps) = ap (λ qs. p ∷ qs) (fresh_shape ps)
 
-node_at : (nodes : List Node) (n : ℕ) (p : PhysicalNode) → slice_get (map (λ (x : Node). x.node) nodes) n ≡ Some p → (node : Node) × (slice_get nodes n ≡ Some node)
+pub node_at : (nodes : List Node) (n : ℕ) (p : PhysicalNode) → slice_get (map (λ (x : Node). x.node) nodes) n ≡ Some p → (node : Node) × (slice_get nodes n ≡ Some node)
 node_at [] n p e = absurd (let no : None ≡ Some p = e in cc)
 node_at (x ∷ xs) zero p e = (x, refl)
 node_at (x ∷ xs) (suc n) p e = node_at xs n p e
@@ -137,10 +135,3 @@ module _ (F : Functions) (shape : Shape) (n : ℕ) (p : PhysicalNode) (s : Field
       let shown : slice_get (shape_of w) n ≡ Some p = subst (λ x. slice_get x n ≡ Some p) (sym (replay_shape F (opening shape o) w r.0 r.1 ∙ fresh_shape shape)) there in
       let at = node_at w.nodes n p shown in
       (reached_passing o w sound r at.0 from to at.1 cf rf ct st).answers d
-
-  pub reached_faults : NeverGrows p.kind → FaultsByPart F p s → GivesFewer F p s → (o : Options) (w : World) → IsSound F shape → Reaches F shape o w → (from to : Pipe) → Contains w.pipes from → from.wire.receiver ≡ n → Contains w.pipes to → to.wire.sender ≡ n
-      → (q : Piece) → Contains w.outs q → q.node ≡ n → (c : Cause) → IsResult F q (bad c) → Faults F p (s ∷ []) (sent_by from ∷ []) c ⊎ Overflows F p (s ∷ []) (sent_by from ∷ []) c
-  reached_faults short by_part fewer o w sound r from to cf rf ct st q cq qn c result =
-      let shown : slice_get (shape_of w) n ≡ Some p = subst (λ x. slice_get x n ≡ Some p) (sym (replay_shape F (opening shape o) w r.0 r.1 ∙ fresh_shape shape)) there in
-      let at = node_at w.nodes n p shown in
-      of_piece F p s n short by_part fewer from q c ((reached_passing o w sound r at.0 from to at.1 cf rf ct st).pieces q cq qn) result

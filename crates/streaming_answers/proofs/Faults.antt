@@ -1,4 +1,4 @@
--- The faults of streaming nodes but maps: each breaks its node, whatever its inputs turn out to mean, or says that there are too many rows where there are.
+-- The faults of streaming nodes: each breaks its node, whatever its inputs turn out to mean, or says that there are too many rows where there are.
 use Rattle.std.proofs.Common.{◌≡◌, ◌≢◌, ℕ, suc, ◌+◌, ◌<◌, ◌⊎◌, Bool, true, false, cond, List, [], ◌∷◌, ◌++◌, length, take, Option, Some, None, refl, sym, ap, subst, ◌∙◌, inl, inr, arith, length-append}
 use Rattle.std.specs.Prelude.{Contains, get_or, map, nat_eq, nat_lt, slice_get, slice_set, ◌&&◌}
 use Rattle.std.specs.List.{AllZip}
@@ -10,11 +10,10 @@ use Rattle.ps_frame.specs.Causes.{Cause}
 use Rattle.ps_frame.specs.Functions.{Functions}
 use Rattle.ps_frame.specs.Tables.{Row, Table}
 use Rattle.ps_meaning.specs.Shape.{IsLargeByStep, PhysicalBefore, PhysicalKind, PhysicalNode, Shape, as_step, filter_node, in_memory_sink, in_memory_source, independent_select, ordered_union, select_node, simple_projection, stream_map, streaming_slice, tables_for, with_row_index}
-use Rattle.ps_meaning.specs.Sound.{HasReaders, IsSound, input_schemas}
+use Rattle.ps_meaning.specs.Sound.{IsSound, input_schemas}
 use Rattle.ps_meaning.specs.Steps.{Named}
 use Rattle.ps_options.specs.declared.options.Options.{Options}
 use Rattle.ps_ports.specs.Ports.{Sides}
-use Rattle.ps_turns.specs.Claims.{Claim, claim_by, passes}
 use Rattle.ps_turns.specs.Heads.{Head, stored_rows}
 use Rattle.ps_turns.specs.Progress.{is_multiplexer, makes_table}
 use Rattle.ps_turns.specs.Pulls.{after_store, passes_limit}
@@ -22,74 +21,36 @@ use Rattle.ps_turns.specs.Results.{IsResult, IsResultOf, rows_fault}
 use Rattle.ps_turns.specs.Tables.{whole_tables}
 use Rattle.ps_turns.specs.Tasks.{Piece, Task, bad, computes, hands_on}
 use Rattle.ps_turns.specs.Updates.{shape_fault}
-use Rattle.ps_world.specs.Booking.{IsPassing, NeverGrows}
-use Rattle.ps_world.specs.Claims.{claim_at, inputs_in_phase, next_morsel}
+use Rattle.ps_world.specs.Booking.{Computes, IsPassing}
 use Rattle.ps_world.specs.Laws.{Extends, Faults, IsLargeWhatever, Overflows, sent_at, sent_by, sent_to}
 use Rattle.ps_world.specs.Opening.{Reaches, opening}
 use Rattle.ps_world.specs.Pipes.{is_input}
 use Rattle.ps_world.specs.Updates.{FaultFound, given_at}
-use Rattle.ps_world.specs.World.{Ending, Node, Pipe, World, heads_of, inputs_done, flat, morsel_at, pipes_in, rows_in_order, running, faulty, schemas_for, shape_of}
+use Rattle.ps_world.specs.World.{Ending, Node, Pipe, World, heads_of, flat, morsel_at, pipes_in, rows_in_order, running, faulty, shape_of}
 use Rattle.world_claims.proofs.ReachedFacts.{known_reached}
 use Rattle.world_claims.specs.Numbering.{Known}
 use Rattle.world_facts.proofs.CutOff.{both_true}
-use Rattle.world_facts.proofs.Placing.{has_readers}
 use Rattle.world_laws.proofs.PassingPorts.{same_number}
 use Rattle.world_facts.proofs.ClaimedOnce.{replay_shape}
 use Rattle.world_laws.proofs.Answered.{in_shape}
-use Rattle.world_laws.proofs.InOrder.{contains_first, none_in_nil}
+use Rattle.world_laws.proofs.InOrder.{contains_first}
 use Rattle.world_laws.proofs.Induction.{opening_shape}
-use Rattle.world_families.proofs.Inputs.{enters, inputs_long, sent_to_is, take_at}
-use Rattle.world_families.proofs.FrontsLaw.{only_one}
-use Rattle.world_families.proofs.UnionLaw.{rows_front}
+use Rattle.family_pipes.proofs.Inputs.{enters, inputs_long, sent_to_is, take_at}
+use Rattle.family_fronts.proofs.FrontsLaw.{only_one}
+use Rattle.family_fronts.proofs.UnionLaw.{rows_front}
 use Rattle.world_families.proofs.Members.{nothing_is}
-use Rattle.world_families.specs.Holds.{HoldsAt, HoldsOfKind}
-use Rattle.world_families.specs.Work.{Gives, Work, asked_by, rows_read, work_of}
+use Rattle.world_families.specs.Holds.{HoldsOfKind}
+use Rattle.world_families.specs.Work.{Work, rows_read, work_of}
 use Rattle.world_families.specs.Keepers.{Stores, StoresAll}
-use Rattle.world_families.specs.Onward.{IsMorselWork}
-use Rattle.world_families.specs.Sources.{HoldsSelect, HoldsSource, KeepsNone}
-use Rattle.world_families.specs.Unions.{HoldsUnion}
-use Rattle.passing_fronts.proofs.PassingKinds.{of_kind}
-use Rattle.passing_fronts.proofs.PassingLaw.{came, goes, input, schema}
-use Rattle.passing_laws.proofs.SoundPieces.{sound-fewer, sound-part-faults}
-use Rattle.passing_runs.proofs.Faults.{short_computes}
-use Rattle.passing_runs.proofs.Reached.{reached_faults}
-use Rattle.family_keeps.proofs.Holding.{OwnLaw, keeps_reached}
-use Rattle.family_keeps.proofs.ReadRows.{came_to, rows_more, stored_more}
-use Rattle.family_keeps.proofs.Says.{reader_pipe}
+use Rattle.passing_fronts.proofs.PassingLaw.{came, input, schema}
+use Rattle.passing_pieces.proofs.LargeAnswers.{AreLawfulFor}
+use Rattle.passing_pieces.proofs.Faults.{reached_faults}
+use Rattle.streaming_pieces.proofs.PieceKinds.{StreamingPiece, computes_morsel, hands_rows, output, selects_once, streaming_piece}
+use Rattle.orderly_worlds.proofs.ReadRows.{came_to, rows_more, stored_more}
 use Rattle.family_keeps.proofs.Sinks.{first_input, sink_input}
-use Rattle.family_keeps.proofs.Stands.{stored_progress}
-use Rattle.streaming_ends.proofs.OnePort.{some_state}
-use Rattle.family_keeps.proofs.Seen.{Seen, claims, pulls_in, stands_still}
+use Rattle.orderly_worlds.proofs.Stands.{stored_progress}
 use Rattle.family_keeps.proofs.Served.{node_holds}
-use Rattle.family_keeps.specs.Kinds.{HandsOn, IsStreaming}
-use Rattle.streaming_answers.specs.NoMaps.{is_stream_map}
-
--- NO PIECE OF A SINK IS OUT
-abbrev IsSink : PhysicalKind → Type 0
-IsSink kind = kind ≡ in_memory_sink
-
-abbrev NoPiece : ℕ → World → Node → Type 0
-NoPiece n w node = (q : Piece) → Contains w.outs q → q.node ≡ n → ⊥
-
-no_claim : (w : World) (n : ℕ) (node : Node) → node.node.kind ≡ in_memory_sink → (i : ℕ) (c : Claim) → claim_at w n i node ≡ Some c → ⊥
-no_claim w n node is i c e = nothing_is c ((λ j. claim_by w.options node.node (schemas_for w node) (sym is j) node.progress (heads_of w n node) (inputs_done w n) i (next_morsel (inputs_in_phase w n i))) ∙ e)
-
-by_seen : (F : Functions) (w v : World) (n : ℕ) (node y : Node) → node.node.kind ≡ in_memory_sink → Seen F w v n node → NoPiece n w node → NoPiece n v y
-by_seen F w v n node y is (stands_still g s st outs) h = λ q c e. h q (outs q c e) e
-by_seen F w v n node y is (claims i k claim g s st outs) h = absurd (no_claim w n node is i k claim)
-by_seen F w v n node y is (pulls_in i p rs pulling cp inp m g s st outs) h = λ q c e. h q (outs q c e) e
-
-sink_pieces : (F : Functions) (n : ℕ) → OwnLaw F n IsSink (NoPiece n)
-sink_pieces F n =
-    record {
-      hands = λ kind is. subst HandsOn (sym is) tt;
-      single = λ kind is. ap is_multiplexer is;
-      fresh = λ shape o node sound at is q c e. none_in_nil q c;
-      step = λ w v node y o kv started shape there at is seen h. by_seen F w v n node y is seen h;
-      turn = λ w m other progress node y near o shut t kv shape there at s is done h. h;
-      still = λ w v node y pipes outs options shape s is h q c e. h q (subst (λ qs. Contains qs q) outs c) e;
-      phase = λ s phase journal node y o rest kv shape there at st is done h. h;
-    }
+use Rattle.world_families.specs.Kinds.{IsStreaming}
 
 -- TASKS
 -- what is handed on has no fault
@@ -98,15 +59,6 @@ hands_none F q c e r = subst (λ (t : Task). IsResultOf F t q.input (whole_table
 
 select_tables : (F : Functions) (kind : PhysicalKind) (es : List Named) (Ts : List Table) → kind ≡ independent_select es → tables_for F kind [] ≡ tables_for F kind Ts
 select_tables F kind es Ts e = ap (λ k. tables_for F k []) e ∙ sym (ap (λ k. tables_for F k Ts) e)
-
-no_grow : (kind : PhysicalKind) → IsPassing kind → is_stream_map kind ≡ false → (NeverGrows kind) ⊎ ((offset n : ℕ) × (kind ≡ streaming_slice offset n))
-no_grow (streaming_slice offset n) h e = inr (offset, n, refl)
-no_grow (with_row_index name offset) h e = inl tt
-no_grow (filter_node x) h e = inl tt
-no_grow (select_node es extends) h e = inl tt
-no_grow (simple_projection names) h e = inl tt
-no_grow (stream_map step) h e = absurd (let no : true ≡ false = e in cc)
-no_grow kind h e = absurd h
 
 module _ (F : Functions) (shape : Shape) (o : Options) (w : World) (sound : IsSound F shape) (r : Reaches F shape o w) where
   known : Known F w
@@ -119,15 +71,9 @@ module _ (F : Functions) (shape : Shape) (o : Options) (w : World) (sound : IsSo
   Names p c = Faults F p (input_schemas (shape_of w) p) (sent_to (sent_at w) p) c ⊎ Overflows F p (input_schemas (shape_of w) p) (sent_to (sent_at w) p) c
 
   -- A HAND-IN
-  module _ (n : ℕ) (node : Node) (there : slice_get w.nodes n ≡ Some node) (is : IsStreaming node.node.kind) (no_map : is_stream_map node.node.kind ≡ false) (c : Cause) (own : c.node ≡ node.node.origin) (q : Piece) (cq : Contains w.outs q) (at : q.node ≡ n) (result : IsResult F q (bad c)) where
+  module _ (n : ℕ) (node : Node) (there : slice_get w.nodes n ≡ Some node) (is : IsStreaming node.node.kind) (laws : AreLawfulFor F node.node.kind) (c : Cause) (own : c.node ≡ node.node.origin) (q : Piece) (cq : Contains w.outs q) (at : q.node ≡ n) (result : IsResult F q (bad c)) where
     shows : slice_get (shape_of w) n ≡ Some node.node
     shows = in_shape w n node there
-
-    holds : HoldsAt F w n node
-    holds = node_holds F shape o w sound r n node.node shows is node there
-
-    of_hands : {A : Type 0} → q.task ≡ hands_on → A
-    of_hands e = absurd (hands_none F q c e result)
 
     of_select : (es : List Named) → node.node.kind ≡ independent_select es → work_of q ≡ record { task = computes node.node; schemas = []; tables = [] } → Names node.node c
     of_select es k e =
@@ -139,58 +85,24 @@ module _ (F : Functions) (shape : Shape) (o : Options) (w : World) (sound : IsSo
         by (U, before, inr large) =
             inr (large.1, λ Ts same m. inl (U, subst (λ ts. PhysicalBefore F node.node (as_step node.node.kind) ts U) (select_tables F node.node.kind es Ts k) before, large.0))
 
-    of_passing : (passing : IsPassing node.node.kind) → NeverGrows node.node.kind → (to : Pipe) → Contains w.pipes to → to.wire.sender ≡ n → Names node.node c
-    of_passing passing short to ct st =
+    of_passing : (passing : IsPassing node.node.kind) → Computes node.node.kind → (to : Pipe) → Contains w.pipes to → to.wire.sender ≡ n → Names node.node c
+    of_passing passing computing to ct st =
         let s = schema F w n node known there shows passing in
         let z = input F w n node known there shows passing in
         let enters = (came F w n node known there shows passing).0 in
         let at_shape : slice_get shape n ≡ Some node.node = ap (λ x. slice_get x n) (sym same_shape) ∙ shows in
         let reads : input_schemas shape node.node ≡ s.0 ∷ [] = ap (λ x. input_schemas x node.node) (sym same_shape) ∙ s.1 in
-        let f = reached_faults F shape n node.node s.0 at_shape passing reads (goes F w n node known there shows passing) short (sound-part-faults F shape n node.node s.0 sound at_shape (short_computes node.node.kind short) reads) (sound-fewer F shape n node.node s.0 sound at_shape short reads) o w sound r z.0 to enters.0 enters.1 ct st q cq at c result in
+        let f = reached_faults F shape n node.node s.0 sound at_shape computing reads laws o w r z.0 to enters.0 enters.1 ct st q cq at c result in
         subst (λ ss. Faults F node.node ss (sent_to (sent_at w) node.node) c ⊎ Overflows F node.node ss (sent_to (sent_at w) node.node) c) (sym s.1)
         (subst (λ ins. Faults F node.node (s.0 ∷ []) ins c ⊎ Overflows F node.node (s.0 ∷ []) ins c) (sym (sent_to_is F w known.facts n node there shows ∙ ap (map sent_by) z.1)) f)
 
-    one_reader : (kind : PhysicalKind) (k : ℕ) → IsPassing kind → HasReaders kind k → k ≡ 1
-    one_reader (streaming_slice offset m) k h e = e
-    one_reader (with_row_index name offset) k h e = e
-    one_reader (filter_node x) k h e = e
-    one_reader (select_node es extends) k h e = e
-    one_reader (simple_projection names) k h e = e
-    one_reader (stream_map step) k h e = e
-    one_reader kind k h e = absurd h
-
-    output : IsPassing node.node.kind → (z : Pipe) × Contains w.pipes z × (z.wire.sender ≡ n)
-    output passing =
-        let s = some_state (given_at w n).outputs (one_reader node.node.kind (length (given_at w n).outputs) passing (has_readers F w known.facts n node there)) in
-        let z = reader_pipe w n 0 s.0 s.1 in
-        (z.0, z.1, z.2)
-
-    -- the work of a slice is to hand on
-    slice_hands : (offset m : ℕ) → node.node.kind ≡ streaming_slice offset m → IsMorselWork w n node q → q.task ≡ hands_on
-    slice_hands offset m k (z, rs, enters, stands, work) =
-        ap (λ (x : Work). x.task) work
-        ∙ ap (λ kind. (asked_by (passes w.options node.node (schemas_for w node) kind (record node.progress { booked = length (rows_in_order (take q.gives z.got)) }) q.gives rs)).task) k
-
     pub handed_names : Names node.node c
-    handed_names = by node.node.kind refl is no_map
+    handed_names = by (streaming_piece F shape o w sound r n node there is q cq at)
       where
-        given : {W : ℕ → Work → Type 0} {A : Type 0} → Gives F w n W KeepsNone A → W q.gives (work_of q)
-        given g = of (g.pieces q cq at)
-          where
-            of : {B : Type 0} → B ⊎ KeepsNone q → B
-            of (inl b) = b
-            of (inr none) = absurd none
-
-        by_grow : (passing : IsPassing node.node.kind) → NeverGrows node.node.kind ⊎ ((offset m : ℕ) × (node.node.kind ≡ streaming_slice offset m)) → Names node.node c
-        by_grow passing (inl short) = let z = output passing in of_passing passing short z.0 z.1 z.2
-        by_grow passing (inr (offset, m, k)) = of_hands (slice_hands offset m k ((of_kind F w n node node.node.kind passing holds.own).pieces q cq at))
-
-        by : (kind : PhysicalKind) → node.node.kind ≡ kind → IsStreaming kind → is_stream_map kind ≡ false → Names node.node c
-        by (in_memory_source t) k h m = of_hands (let g : HoldsSource F w n node t.rows = subst (HoldsOfKind F w n node) k holds.own in let x = given g in ap (λ (y : Work). y.task) x)
-        by (independent_select es) k h m = let g : HoldsSelect F w n node = subst (HoldsOfKind F w n node) k holds.own in let x = given g in of_select es k x.1
-        by in_memory_sink k h m = absurd ((keeps_reached F n IsSink (NoPiece n) (sink_pieces F n) shape o w sound r node there k).own q cq at)
-        by ordered_union k h m = let u : HoldsUnion F w n node = subst (HoldsOfKind F w n node) k holds.own in let x = given u.gives in of_hands (ap (λ (y : Work). y.task) x.2)
-        by kind k h m = let passing = subst IsPassing (sym k) h in by_grow passing (no_grow node.node.kind passing (ap is_stream_map k ∙ m))
+        by : StreamingPiece node q → Names node.node c
+        by (hands_rows rs h) = absurd (hands_none F q c h.0 result)
+        by (selects_once es k work) = of_select es k work
+        by (computes_morsel passing computing) = let z = output F w n node known there passing in of_passing passing computing z.0 z.1 z.2
 
   -- A PULL: too many rows came to a sink
   set_first : (ss : List (List (List Row))) (m : List (List Row)) → (get_or (slice_set ss 0 m) 0 [] ≡ m) ⊎ (get_or (slice_set ss 0 m) 0 [] ≡ [])

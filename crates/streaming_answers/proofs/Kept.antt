@@ -1,8 +1,8 @@
--- A run of a graph of streaming nodes without maps that ended has the whole answer, or names a cause.
+-- A run of a graph of streaming nodes that ended has the whole answer, or names a cause.
 use Rattle.std.proofs.Common.{◌≡◌, ℕ, true, false, cond, List, [], ◌∷◌, Some, refl, sym, ap, subst, ◌∙◌, inl, inr}
 use Rattle.std.specs.Prelude.{slice_get}
 use Rattle.ps_frame.specs.Causes.{Cause, is_empty}
-use Rattle.ps_frame.specs.Functions.{Functions}
+use Rattle.ps_frame.specs.Functions.{Functions, IsLawful}
 use Rattle.ps_meaning.specs.Shape.{PhysicalBrokenBy, PhysicalIsLarge, PhysicalKind, PhysicalNode, Shape, filter_node, in_memory_sink, in_memory_source, independent_select, ordered_union, select_node, simple_projection, stream_map, streaming_slice, with_row_index}
 use Rattle.ps_meaning.specs.Sound.{IsSound}
 use Rattle.ps_options.specs.declared.options.Options.{Options}
@@ -25,15 +25,46 @@ use Rattle.world_laws.proofs.Endings.{Ends, ends_of, faults, finishes, goes_on}
 use Rattle.world_laws.proofs.Induction.{opening_shape}
 use Rattle.world_laws.proofs.OneChoice.{faulty_is_broken, large_by}
 use Rattle.world_laws.proofs.Shapes.{updates_keep}
+use Rattle.passing_pieces.proofs.LargeAnswers.{AreLawfulFor}
 use Rattle.fault_origins.proofs.Results.{of_step}
 use Rattle.fault_origins.proofs.Tasks.{reached_own}
-use Rattle.family_keeps.proofs.Reaching.{fresh_reached, reached_more}
-use Rattle.family_keeps.proofs.Stands.{stored_progress}
+use Rattle.orderly_worlds.proofs.Reaching.{fresh_reached, reached_more}
+use Rattle.orderly_worlds.proofs.Stands.{stored_progress}
 use Rattle.family_keeps.proofs.Served.{node_justified}
-use Rattle.family_keeps.specs.Kinds.{IsStreaming}
+use Rattle.world_families.specs.Kinds.{IsStreaming}
 use Rattle.streaming_ends.proofs.Finishing.{finished_done, finished_means}
 use Rattle.streaming_answers.proofs.Faults.{Names, finds_none, handed_names, of_limit, pulled_names}
 use Rattle.streaming_answers.specs.NoMaps.{StreamsNoMap}
+
+-- a node that streams, with laws where it is a map
+abbrev pub StreamsLawfully : Functions → PhysicalKind → Type 0
+StreamsLawfully F kind = IsStreaming kind × AreLawfulFor F kind
+
+pub by_laws : (F : Functions) (kind : PhysicalKind) → IsLawful F → IsStreaming kind → StreamsLawfully F kind
+by_laws F (stream_map step) laws h = (h, laws)
+by_laws F (in_memory_source t) laws h = (h, tt)
+by_laws F (independent_select es) laws h = (h, tt)
+by_laws F in_memory_sink laws h = (h, tt)
+by_laws F ordered_union laws h = (h, tt)
+by_laws F (streaming_slice offset n) laws h = (h, tt)
+by_laws F (with_row_index name offset) laws h = (h, tt)
+by_laws F (filter_node x) laws h = (h, tt)
+by_laws F (select_node es extends) laws h = (h, tt)
+by_laws F (simple_projection names) laws h = (h, tt)
+by_laws F kind laws h = absurd h
+
+pub without_maps : (F : Functions) (kind : PhysicalKind) → StreamsNoMap kind → StreamsLawfully F kind
+without_maps F (stream_map step) h = absurd (let no : true ≡ false = h.1 in cc)
+without_maps F (in_memory_source t) h = (h.0, tt)
+without_maps F (independent_select es) h = (h.0, tt)
+without_maps F in_memory_sink h = (h.0, tt)
+without_maps F ordered_union h = (h.0, tt)
+without_maps F (streaming_slice offset n) h = (h.0, tt)
+without_maps F (with_row_index name offset) h = (h.0, tt)
+without_maps F (filter_node x) h = (h.0, tt)
+without_maps F (select_node es extends) h = (h.0, tt)
+without_maps F (simple_projection names) h = (h.0, tt)
+without_maps F kind h = absurd h.0
 
 -- of streaming nodes a sink alone pulls
 pulls_sink : (kind : PhysicalKind) → IsStreaming kind → pulls kind ≡ true → kind ≡ in_memory_sink
@@ -49,7 +80,7 @@ pulls_sink (simple_projection names) h e = absurd (let no : false ≡ true = e i
 pulls_sink (stream_map step) h e = absurd (let no : false ≡ true = e in cc)
 pulls_sink kind h e = absurd h
 
-module _ (F : Functions) (shape : Shape) (o : Options) (sound : IsSound F shape) (streams : (n : ℕ) (p : PhysicalNode) → slice_get shape n ≡ Some p → StreamsNoMap p.kind) where
+module _ (F : Functions) (shape : Shape) (o : Options) (sound : IsSound F shape) (streams : (n : ℕ) (p : PhysicalNode) → slice_get shape n ≡ Some p → StreamsLawfully F p.kind) where
   all_stream : (n : ℕ) (p : PhysicalNode) → slice_get shape n ≡ Some p → IsStreaming p.kind
   all_stream n p e = (streams n p e).0
 
@@ -63,7 +94,7 @@ module _ (F : Functions) (shape : Shape) (o : Options) (sound : IsSound F shape)
     justified : AllJustified F (shape_of w) (sent_at w)
     justified n p e = node_justified F shape o w sound r n p e (all_stream n p (ap (λ ps. slice_get ps n) (sym same_shape) ∙ e))
 
-    kind_of : (n : ℕ) (node : Node) → slice_get w.nodes n ≡ Some node → StreamsNoMap node.node.kind
+    kind_of : (n : ℕ) (node : Node) → slice_get w.nodes n ≡ Some node → StreamsLawfully F node.node.kind
     kind_of n node at = streams n node.node (ap (λ ps. slice_get ps n) (sym same_shape) ∙ in_shape w n node at)
 
     names_at : (n : ℕ) (p : PhysicalNode) (c : Cause) → slice_get (shape_of w) n ≡ Some p → Names F shape o w sound r p c → NamesCause F shape c

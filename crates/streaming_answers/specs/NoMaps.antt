@@ -1,7 +1,7 @@
--- Streaming nodes but maps: a map's function may answer a part of the rows by more than it gives of all of them.
+-- Streaming nodes but maps: of these alone nothing is asked of the functions.
 use Rattle.std.specs.Prelude.{Bool, true, false, IsFalse}
 use Rattle.ps_meaning.specs.Shape.{PhysicalKind, stream_map}
-use Rattle.family_keeps.specs.Kinds.{IsStreaming}
+use Rattle.world_families.specs.Kinds.{IsStreaming}
 
 abbrev pub is_stream_map : PhysicalKind → Bool
 is_stream_map (stream_map step) = true

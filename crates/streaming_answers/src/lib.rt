@@ -1,4 +1,4 @@
-// How runs of graphs of streaming nodes without maps end, with no premise left.
+// How runs of graphs of streaming nodes end: with the whole answer, or with a cause.
 #![tactic(auto)]
 
 pub mod answered;

@@ -28,8 +28,8 @@ use Rattle.world_laws.proofs.Endings.{Ends, ends_of, faults, finishes, goes_on}
 use Rattle.world_laws.proofs.Induction.{opening_shape}
 use Rattle.world_laws.proofs.Shapes.{step_keeps, updates_keep}
 use Rattle.family_keeps.proofs.Served.{served}
-use Rattle.family_keeps.specs.Kinds.{IsStreaming}
-use Rattle.streaming_ends.proofs.StreamPorts.{streaming_ports}
+use Rattle.world_families.specs.Kinds.{IsStreaming}
+use Rattle.streaming_ports.proofs.StreamPorts.{streaming_ports}
 
 abbrev pub AllStream : Shape → Type 0
 AllStream shape = (n : ℕ) (p : PhysicalNode) → slice_get shape n ≡ Some p → IsStreaming p.kind

@@ -1,5 +1,1 @@
-pub mod Ports
-pub mod OnePort
-pub mod UnionPorts
-pub mod StreamPorts
 pub mod Finishing

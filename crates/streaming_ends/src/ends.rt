@@ -4,18 +4,11 @@ ghost use Rattle.ps_frame.specs.Functions.{Functions};
 ghost use Rattle.ps_meaning.specs.Shape.{PhysicalNode, Shape};
 ghost use Rattle.ps_meaning.specs.Sound.{IsSound};
 ghost use Rattle.ps_options.specs.declared.options.Options.{Options};
-ghost use Rattle.ps_world.specs.Laws.{AllDone, PortLaw};
+ghost use Rattle.ps_world.specs.Laws.{AllDone};
 ghost use Rattle.ps_world.specs.Opening.{Reaches};
 ghost use Rattle.ps_world.specs.Promises.{HoldsMeaning};
-ghost use Rattle.ps_world.specs.Updates.{IsSettled};
-ghost use Rattle.ps_world.specs.World.{World, finished, shape_of};
-ghost use Rattle.world_claims.specs.Numbering.{Known};
-ghost use Rattle.family_keeps.specs.Kinds.{IsStreaming};
-
-/// In a settled world between phases a streaming node that takes is ready to a live input and blocked to its outputs; a live input of another one leads on to a live output; and where all its live inputs are sent ready, so is its live output: the third part of its law.
-pub fn streaming_nodes_lead_on()
-    ensures { (F : Functions) (s : World) (n : ℕ) (p : PhysicalNode) → Known F s → slice_get (shape_of s) n ≡ Some p → IsStreaming p.kind → IsSettled s → PortLaw s n }
-{}
+ghost use Rattle.ps_world.specs.World.{World, finished};
+ghost use Rattle.world_families.specs.Kinds.{IsStreaming};
 
 /// Where all nodes of a sound shape stream, a finished run has every pipe done on both ends, and the rows in its sink are those of a whole table that the sink means.
 pub fn streaming_runs_end_whole()

@@ -6,4 +6,5 @@ pub mod Keepers
 pub mod Joins
 pub mod Onward
 pub mod Holds
+pub mod Kinds
 pub mod Examples

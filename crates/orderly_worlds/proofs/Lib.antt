@@ -1,0 +1,9 @@
+pub mod Goes
+pub mod Stands
+pub mod Turned
+pub mod PortPipes
+pub mod Orderly
+pub mod Reaching
+pub mod Seen
+pub mod Says
+pub mod ReadRows

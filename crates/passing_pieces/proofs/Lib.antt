@@ -1,0 +1,4 @@
+pub mod LargeAnswers
+pub mod ClaimAnswers
+pub mod Faults
+pub mod Results

@@ -1,0 +1,2 @@
+pub mod SourceKeeps
+pub mod SourceOpens

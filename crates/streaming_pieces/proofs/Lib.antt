@@ -1,0 +1,3 @@
+pub mod SinkPieces
+pub mod PieceKinds
+pub mod PieceResults

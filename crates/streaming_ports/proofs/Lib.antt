@@ -1,0 +1,4 @@
+pub mod Ports
+pub mod OnePort
+pub mod UnionPorts
+pub mod StreamPorts

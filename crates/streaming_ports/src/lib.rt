@@ -1,0 +1,4 @@
+// Which ports of streaming nodes are ready between phases.
+#![tactic(auto)]
+
+pub mod leading;

@@ -1,0 +1,2 @@
+pub mod OfWorlds
+pub mod SmallWorlds

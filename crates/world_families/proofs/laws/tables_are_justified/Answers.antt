@@ -1,5 +1,0 @@
-use Rattle.world_families.proofs.MadeLaw.{made_justified}
-use Rattle.world_families.proofs.laws.tables_are_justified.Goals as goal
-
-pub returns : goal.returns
-returns c = λ F w n p lawful known e makes h. made_justified F w n p lawful known e makes h

@@ -1,5 +1,0 @@
-use Rattle.world_families.proofs.UnionLaw.{unions_justified}
-use Rattle.world_families.proofs.laws.unions_are_justified.Goals as goal
-
-pub returns : goal.returns
-returns c = λ F w n p known e is_one h. unions_justified F w n p known e is_one h
