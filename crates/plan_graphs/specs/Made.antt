@@ -42,9 +42,9 @@ IsNewOf (negative_slice back k) s ss n = IsNewKeeper (negative_slice back k) [] 
 IsNewOf (zip_node extend) s ss n = IsNewZipOf extend (length ss) n
 IsNewOf kind s ss n = IsNew kind n
 
--- it wasn't told yet how its query is run
+-- it wasn't told yet how its query is run, and a source's morsels are numbered from 0 on
 abbrev pub IsUntold : FlowNode → Type 0
-IsUntold (flow.InMemorySource n) = IsFirstCut n.options
+IsUntold (flow.InMemorySource n) = IsFirstCut n.options × (n.seq_offset ≡ 0)
 IsUntold (flow.NegativeSlice n) = IsFirstCut n.made.options
 IsUntold (flow.GroupBy n) = IsFirstCut n.options
 IsUntold (flow.InMemoryJoin n) = IsFirstCut n.made.options
