@@ -1,0 +1,42 @@
+// Items that come before those in front of them, and more than the ring holds.
+use numbered_slots::NumberedSlots;
+use std::test::Fail;
+
+#[test]
+fn reads_in_the_order_of_numbers(rt: HostRuntime) -> Result<(), Fail> {
+    let mut slots: NumberedSlots<u32> = NumberedSlots::new(rt.alloc(), 2)?;
+    slots.reserve()?;
+    slots.reserve()?;
+    slots.reserve()?;
+    slots.put(2, 12);
+    assert!(rt; !slots.is_ready());
+    assert_eq!(rt; slots.take(), None);
+    slots.put(0, 10);
+    assert_eq!(rt; slots.take(), Some(10));
+    assert_eq!(rt; slots.take(), None);
+    slots.put(1, 11);
+    assert_eq!(rt; slots.waiting(), 2);
+    assert_eq!(rt; slots.take(), Some(11));
+    assert_eq!(rt; slots.take(), Some(12));
+    assert_eq!(rt; slots.next(), 3);
+    assert_eq!(rt; slots.len(), 0);
+    Ok(())
+}
+
+// A ring of two, and a thousand items behind it.
+#[test]
+fn holds_more_than_its_ring(rt: HostRuntime) -> Result<(), Fail> {
+    let mut slots: NumberedSlots<u32> = NumberedSlots::new(rt.alloc(), 2)?;
+    for item in 0..1000 {
+        slots.push(item)?;
+    }
+    assert_eq!(rt; slots.waiting(), 1000);
+    for item in 0..1000 {
+        assert_eq!(rt; slots.take(), Some(item));
+    }
+    slots.push(7)?;
+    slots.clear();
+    assert_eq!(rt; slots.take(), None);
+    assert_eq!(rt; slots.next(), 1000);
+    Ok(())
+}
