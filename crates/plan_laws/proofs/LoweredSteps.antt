@@ -12,8 +12,8 @@ use Rattle.ps_frame.specs.Trees.{Tree}
 use Rattle.ps_frame.specs.declared.value.Value.{Value}
 use Rattle.ps_meaning.specs.Cases.{IsCaseBrokenBy, first_table, second_table}
 use Rattle.ps_meaning.specs.Groups.{group_rows, keys_of}
-use Rattle.ps_meaning.specs.Meaning.{Choice, HasLargeAnswer, HasLargeColumn, IsBrokenBy, IsLarge, IsLargeCase, IsLargeStep, Means, by_case, more_mean, none_mean}
-use Rattle.ps_meaning.specs.PlanTrees.{PlanTree, node, no_trees, tree}
+use Rattle.ps_meaning.specs.Meaning.{Choice, HasLargeAnswer, HasLargeColumn, IsBrokenBy, IsLarge, IsLargeCase, IsLargeStep, IsLargeUnder, Means, by_case, more_mean, none_mean}
+use Rattle.ps_meaning.specs.PlanTrees.{PlanTree, missing, node, no_trees, tree}
 use Rattle.ps_meaning.specs.Shape.{IsLargeAt, PhysicalMayGive, PhysicalNode, Shape}
 use Rattle.ps_meaning.specs.Sound.{schema_at}
 use Rattle.ps_meaning.specs.Steps.{Step, scan, project, select, hstack, filter, slice, sink, row_index, user, sort, union, hconcat, cache, group_by, join, distinct, left_out, exprs_of}
@@ -130,8 +130,19 @@ module _ (F : Functions) (before more : Shape) (cached known : List Cached) (at 
         let k = befores-keep F at step (tables from ∷ []) (L ∷ []) U (a, tt) b in
         (other, inr (inl (k.0, inr (L ∷ [], more_mean mean none_mean, k.1, lowered.no_cache other k.0), subst (λ (rows : List (List Value)). max_rows < length rows) k.2.same_rows h)))
 
+    large-given : (other : Choice) (u : PlanTree) (L : Table) → Means F other u L → max_rows < length L.rows → IsLargeUnder F other u
+    large-given other (node a s below) L mean h = inr (inl (L, inl mean, h))
+    large-given other missing L mean h = elim mean [ ]
+
+    large-below : (other : Choice) (L : Table) → Means F other t L → EndAlike (tables from) L → max_rows < length (tables from).rows → IsLarge F (node at step (tree t no_trees))
+    large-below other L mean a h = (other, inl (inl (large-given other t L mean (subst (λ (rows : List (List Value)). max_rows < length rows) a.same_rows h))))
+
     pub sizes-above : IsLargeAt F (before ++ more) tables n → IsLarge F (node at step (tree t no_trees))
     sizes-above large =
         let r = lowered.stream tables (earlier tables new.of_nodes) new.choice new.serves in
         let l = r.3 in
-        large-above r.0 l.0 l.1 l.2 ((lowered.call tables new.of_nodes.0 (wide tables new.of_nodes)).1.sizes n new.behind new.within large)
+        by r.0 l.0 l.1 l.2 ((lowered.call tables new.of_nodes.0 (wide tables new.of_nodes)).1.sizes n new.behind new.within large)
+      where
+        by : (other : Choice) (L : Table) → Means F other t L → EndAlike (tables from) L → IsLargeCase F at step (tables from ∷ []) ⊎ (max_rows < length (tables from).rows) → IsLarge F (node at step (tree t no_trees))
+        by other L mean a (inl of_step) = large-above other L mean a of_step
+        by other L mean a (inr below) = large-below other L mean a below
