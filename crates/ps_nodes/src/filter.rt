@@ -1,4 +1,5 @@
 //! The filter.
+ghost use Rattle.std.specs.Prelude.{◌≡◌};
 ghost use Rattle.ps_nodes.specs.Exprs.{expr_shown};
 ghost use Rattle.ps_nodes.specs.Seen.{IsNew};
 ghost use Rattle.ps_nodes.specs.declared.flow.FlowNode.TheVariants as flow;
@@ -18,5 +19,12 @@ impl FilterNode {
         ensures { IsNew (filter_node (expr_shown predicate).1) (flow.Filter result) }
     {
         FilterNode { predicate }
+    }
+
+    /// Which rows it keeps.
+    pub fn predicate(&self) -> &StreamExpr
+        ensures { result.now ≡ self.now.predicate }
+    {
+        &self.predicate
     }
 }

@@ -25,6 +25,13 @@ impl InputIndependentSelectNode {
         InputIndependentSelectNode { selectors, sent: 0 }
     }
 
+    /// The expressions of its columns.
+    pub fn selectors(&self) -> &[StreamExpr]
+        ensures { result.now ≡ self.now.selectors.items }
+    {
+        self.selectors.as_slice()
+    }
+
     /// Its morsel is claimed.
     pub fn claim(&mut self)
         requires { self.old.sent + 1 < 2 ^ 64 }

@@ -1,4 +1,5 @@
 //! The map of a streamable function.
+ghost use Rattle.std.specs.Prelude.{◌≡◌};
 ghost use Rattle.ps_meaning.specs.Shape.{stream_map};
 ghost use Rattle.ps_meaning.specs.Steps.{user};
 ghost use Rattle.ps_nodes.specs.Seen.{IsNew};
@@ -16,5 +17,12 @@ impl MapNode {
         ensures { IsNew (stream_map (user function)) (flow.Map result) }
     {
         MapNode { function }
+    }
+
+    /// The number of the function.
+    pub fn function(&self) -> usize
+        ensures { result ≡ self.now.function }
+    {
+        self.function
     }
 }

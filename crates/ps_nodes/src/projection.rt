@@ -25,4 +25,18 @@ impl SimpleProjectionNode {
             input_schema,
         }
     }
+
+    /// The columns that it gives, in their order.
+    pub fn columns(&self) -> &[PlSmallStr]
+        ensures { result.now ≡ self.now.columns.items }
+    {
+        self.columns.as_slice()
+    }
+
+    /// The schema of its input.
+    pub fn input_schema(&self) -> &Schema
+        ensures { result.now ≡ self.now.input_schema }
+    {
+        &self.input_schema
+    }
 }

@@ -26,6 +26,27 @@ impl WithRowIndexNode {
         }
     }
 
+    /// The name of its column of numbers.
+    pub fn name(&self) -> &PlSmallStr
+        ensures { result.now ≡ self.now.name }
+    {
+        &self.name
+    }
+
+    /// The number of the first row, where one is given.
+    pub fn offset(&self) -> Option<u32>
+        ensures { result ≡ self.now.offset }
+    {
+        self.offset
+    }
+
+    /// How many rows were claimed.
+    pub fn booked(&self) -> usize
+        ensures { result ≡ self.now.booked }
+    {
+        self.booked
+    }
+
     /// So many rows more are claimed.
     pub fn book(&mut self, rows: usize)
         requires { self.old.booked + rows < 2 ^ 64 }

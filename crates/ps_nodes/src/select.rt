@@ -28,4 +28,25 @@ impl SelectNode {
             extend_original,
         }
     }
+
+    /// The expressions of its columns.
+    pub fn selectors(&self) -> &[StreamExpr]
+        ensures { result.now ≡ self.now.selectors.items }
+    {
+        self.selectors.as_slice()
+    }
+
+    /// The schema of what it gives.
+    pub fn schema(&self) -> &Schema
+        ensures { result.now ≡ self.now.schema }
+    {
+        &self.schema
+    }
+
+    /// Whether its columns are put beside those of its input.
+    pub fn extends_original(&self) -> bool
+        ensures { result ≡ self.now.extend_original }
+    {
+        self.extend_original
+    }
 }

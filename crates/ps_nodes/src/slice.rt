@@ -28,6 +28,13 @@ impl StreamingSliceNode {
         }
     }
 
+    /// Which rows it gives, and how many of its input were claimed.
+    pub fn state(&self) -> SliceState
+        ensures { result ≡ self.now.state }
+    {
+        self.state
+    }
+
     /// So many rows more are claimed.
     pub fn book(&mut self, rows: usize)
         requires { self.old.state.booked + rows < 2 ^ 64 }

@@ -37,6 +37,27 @@ impl InMemorySourceNode {
         }
     }
 
+    /// The table whose rows it gives.
+    pub fn source(&self) -> &DataFrame
+        ensures { result.now ≡ self.now.source }
+    {
+        &self.source
+    }
+
+    /// By what its table is cut.
+    pub fn options(&self) -> &Options
+        ensures { result.now ≡ self.now.options }
+    {
+        &self.options
+    }
+
+    /// How many of its morsels were claimed.
+    pub fn sent(&self) -> usize
+        ensures { result ≡ self.now.sent }
+    {
+        self.sent
+    }
+
     /// It is cut by these options from now on.
     pub fn cut_by(&mut self, options: Options)
         ensures { self.new ≡ record self.old { options = options } }

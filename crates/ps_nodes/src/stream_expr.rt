@@ -64,7 +64,7 @@ impl StreamExpr {
     /// A copy of the expression in another arena, behind what stands there.
     ///
     /// Fails only for want of memory; the other arena may then have grown.
-    pub(crate) fn copy_into(&self, alloc: Global, into: &mut Arena<AExpr>) -> PolarsResult<ExprIR>
+    pub fn copy_into(&self, alloc: Global, into: &mut Arena<AExpr>) -> PolarsResult<ExprIR>
         ensures tree { IfOk result (λ e. tree_at into.new.items e.node ≡ (expr_shown self.now).1) }
         ensures kept { OnOk result (KeepsTrees into.old.items into.new.items) }
         ensures memory { OnErr result (result ≡ Err PolarsError.OutOfMemory) }
