@@ -118,6 +118,9 @@ impl InMemoryMapNode {
         ensures filled { OnOk result ((given : Sides) → IsTrue (is_waiting (in_memory_map (step_of self.old.map)) (progress_of (flow.InMemoryMap self.old)) given) → Fills (F.told functions.now) (bare_node (in_memory_map (step_of self.old.map)) []) (self.old.input.schema ∷ []) given (progress_of (flow.InMemoryMap self.old)) (progress_of (flow.InMemoryMap self.new))) }
         ensures fault { IfErr result (λ e. MayBreak (F.told functions.now) (bare_node (in_memory_map (step_of self.old.map)) []) (whole self.old.input ∷ []) e) }
         ensures over { OnOk result (self.new.waits ≡ false) }
+        ensures others { OnOk result (self.new ≡ record self.old { made = record self.old.made { table = self.new.made.table }; waits = false }) }
+        ensures refused { OnErr result (self.new ≡ record self.old { input = self.new.input }) }
+        ensures schema { self.new.input.schema ≡ self.old.input.schema }
     {
         // Matches and no `?`: so what is said of the error is said of the answer.
         let input = match self.input.table(alloc) {
