@@ -1,19 +1,19 @@
 -- What a call keeps of what it was asked, whatever tables the nodes mean.
-use Rattle.std.specs.Prelude.{◌≡◌, ℕ, List, [], ◌∷◌, slice_get, map, IsTrue}
+use Rattle.std.specs.Prelude.{◌≡◌, ℕ, List, slice_get, map, IsTrue}
 use Rattle.std.specs.List.{AllByRecursion}
 use Rattle.ps_frame.specs.Functions.{Functions}
 use Rattle.ps_frame.specs.Tables.{Table}
 use Rattle.ps_frame.specs.Typing.{is_elementwise}
-use Rattle.ps_meaning.specs.Cases.{Case}
+use Rattle.ps_meaning.specs.Schemas.{expr_names}
 use Rattle.ps_meaning.specs.Shape.{IsPhysicalChoice}
 use Rattle.ps_meaning.specs.Sound.{schema_at}
 use Rattle.ps_meaning.specs.Steps.{Name, Named, exprs_of, name_in, select}
-use Rattle.ps_plan.specs.Lowering.{HasRowsOf, StaysWithin}
+use Rattle.ps_plan.specs.Lowering.{HasRowsOf, LowersExprs, LowersStep}
 use Rattle.ps_meaning.specs.declared.options.ExprIR.{ExprIR}
 use Rattle.ps_frame.specs.Trees.{Tree}
 use Rattle.ps_rules.specs.Lowered.{lower_exprs, select_stream}
-use Rattle.ps_rules.specs.Slots.{State, Stream, under}
-use Rattle.ps_bundles.specs.Lowers.{BrokenOnlyBy}
+use Rattle.ps_rules.specs.Slots.{State, Stream, schema_at as stream_schema, under}
+use Rattle.ps_bundles.specs.Lowers.{HaveKinds}
 
 -- the names under which expressions are asked for
 abbrev pub names_asked : List ExprIR → List Name
@@ -30,15 +30,14 @@ pub record LeavesStream (at : ℕ) (input : Stream) (before after : State) (aske
   pub nodes : after ≡ (select_stream at input asked before).state
   pub to : stream ≡ (select_stream at input asked before).stream
 
--- Over whatever table of its schema the input means, the answered expressions over the answered stream end as the asked ones do over the input, and no new node shows another cause. They are elementwise.
+-- Over whatever table of its schema the input means, the answered expressions over the answered stream end as the asked ones do over the input. No new node shows another cause, or is large where neither the select of the asked ones nor the input is. The answered ones are elementwise, and have the names and the kinds of the asked ones.
 pub record KeepsExprs (F : Functions) (at : ℕ) (before after : State) (input : Stream) (asked answered : List Named) (stream : Stream) : Type 0 where
   pub elementwise : AllByRecursion (λ e. IsTrue (is_elementwise e)) (exprs_of answered)
-  pub meaning : (tables : ℕ → Table) → IsPhysicalChoice F after.nodes tables → HasRowsOf (schema_at (slice_get before.nodes input.0)) (tables input.0)
-      → ((P : Table) → Case F at (select answered) (tables stream.0 ∷ []) P → StaysWithin F at (select asked) (tables input.0) P)
-      × BrokenOnlyBy F before.nodes after.nodes tables at (select asked) (tables input.0)
+  pub names : expr_names answered ≡ expr_names asked
+  pub kinds : (tables : ℕ → Table) → IsPhysicalChoice F after.nodes tables → HasRowsOf (schema_at (slice_get before.nodes input.0)) (tables input.0)
+      → HaveKinds after.nodes tables stream (exprs_of answered) (stream_schema before.nodes input) (exprs_of asked)
+  pub meaning : LowersExprs F before.nodes after.nodes at asked input.0 answered stream.0
 
--- Over whatever table of its schema the input means, the stream of a select ends as the select, and no new node shows another cause.
+-- The same of a select, whose stream ends as the select does over the input.
 abbrev pub KeepsSelect : Functions → ℕ → (before after : State) → (input : Stream) → (asked : List Named) → (stream : Stream) → Type 0
-KeepsSelect F at before after input asked stream =
-    (tables : ℕ → Table) → IsPhysicalChoice F after.nodes tables → HasRowsOf (schema_at (slice_get before.nodes input.0)) (tables input.0)
-    → StaysWithin F at (select asked) (tables input.0) (tables stream.0) × BrokenOnlyBy F before.nodes after.nodes tables at (select asked) (tables input.0)
+KeepsSelect F at before after input asked stream = LowersStep F before.nodes after.nodes at (select asked) input.0 stream.0

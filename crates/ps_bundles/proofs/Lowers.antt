@@ -162,6 +162,7 @@ exprs_keep F at input s ns es ready count small tables choice rows =
           (ends_through P p l' (subst (λ es. Ends at P (columns_at at es Z)) exprs (selects_end F at (under ns a.exprs) Z P case)) z.ends z.within.causes (loses_rows at Z a.exprs r.after.plain))
           (subst (λ (T : Table). AllOf causes T.broken) (sym case.2) all)),
       broken_only F at t' ns es count tables s.nodes N choice (new_then F N tables choice causes s.nodes b.state.nodes N r.made z.made),
+      (sym z.schema, ap (λ f. map (kind_over f) a.exprs) z.schema ∙ z.kinds ∙ sym (ap (λ f. map (kind_over f) es) f.schema)),
     )
 
 -- expressions under names as operands

@@ -89,7 +89,7 @@ extent_leaf [] c h e = absurd h
 extent_leaf (y ∷ cs) c (inl q) e = inl (ap extent_of q ∙ e)
 extent_leaf (y ∷ cs) c (inr h) e = inr (extent_leaf cs c h e)
 
-under_operands : (os : List Operand) (s : State) → operands_of (under (new_names os s) os) ≡ os
+pub under_operands : (os : List Operand) (s : State) → operands_of (under (new_names os s) os) ≡ os
 under_operands [] s = refl
 under_operands (o ∷ os) s = ap (λ os. o ∷ os) (under_operands os (after_name s))
 

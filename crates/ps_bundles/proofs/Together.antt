@@ -206,10 +206,10 @@ module _ (F : Functions) (at : ℕ) (input : Stream) (N : Shape) (tables : ℕ �
     abbrev P : Table
     P = projected ns fs.fields t
 
-    reads_kept : (m : Named) → Has items m → is_some (kind_over t.schema m.1) ≡ true → (name : Name) → IsTrue (reads_column name m.1) → is_among name ns ≡ true
+    pub reads_kept : (m : Named) → Has items m → is_some (kind_over t.schema m.1) ≡ true → (name : Name) → IsTrue (reads_column name m.1) → is_among name ns ≡ true
     reads_kept m has k name r = kept_reads items t.schema name (reads_by name items m has r) (named_as name t.schema ∙ sym (kind_as name t.schema) ∙ is_read (HasKind t.schema) name m.1 (typed_reads t.schema m.1 k) r)
 
-    column_kept : (e : Tree) → ((name : Name) → IsTrue (reads_column name e) → is_among name ns ≡ true) → eval at P e ≡ eval at t e
+    pub column_kept : (e : Tree) → ((name : Name) → IsTrue (reads_column name e) → is_among name ns ≡ true) → eval at P e ≡ eval at t e
     column_kept e reads = reads_projected at ns fs.fields t e fs.names reads fs.kinds
 
     kind_kept : (e : Tree) → ((name : Name) → IsTrue (reads_column name e) → is_among name ns ≡ true) → kind_over P.schema e ≡ kind_over t.schema e
@@ -233,7 +233,7 @@ module _ (F : Functions) (at : ℕ) (input : Stream) (N : Shape) (tables : ℕ �
     all_same [] = tt
     all_same (m ∷ is) = ((refl, refl), all_same is)
 
-    projection_is : (T U : Table) → GivesBeforeCut F at (project ns) (t ∷ []) U → T ≡ U → T ≡ P
+    pub projection_is : (T U : Table) → GivesBeforeCut F at (project ns) (t ∷ []) U → T ≡ U → T ≡ P
     projection_is T U (inl g) e = e ∙ g ∙ ap (λ o. projected ns (unwrap_or o []) t) fs.found
     projection_is T U (inr (V, g, some, u)) e = absurd (some refl)
 
