@@ -1,0 +1,4 @@
+mod Alike
+mod Existing
+mod Staying
+mod Selecting
