@@ -1,0 +1,5 @@
+pub mod Calls
+pub mod Covered
+pub mod Lowered
+pub mod Parts
+pub mod Stored

@@ -1,0 +1,10 @@
+pub mod Alike
+pub mod Caches
+pub mod Induction
+pub mod Inputs
+pub mod Lists
+pub mod OneStep
+pub mod Ordinary
+pub mod Told
+pub mod ToldCaches
+pub mod ToldPlans

@@ -1,0 +1,15 @@
+pub mod Added
+pub mod ByCell
+pub mod CellSteps
+pub mod Composed
+pub mod Cuts
+pub mod Mapped
+pub mod One
+pub mod OwnColumns
+pub mod OneInput
+pub mod Owned
+pub mod Scans
+pub mod Selected
+pub mod Steps
+pub mod Streamed
+pub mod WholeJoins
