@@ -1,0 +1,7 @@
+pub mod Empty
+pub mod Arms
+pub mod Choosing
+pub mod Fits
+pub mod Several
+pub mod Standing
+pub mod Testing

@@ -1,0 +1,21 @@
+use Rattle.std.proofs.Common.{[], ◌∷◌, sym, ◌∙◌}
+use Rattle.std.specs.Prelude.{is_some}
+use Rattle.ps_frame.specs.Functions.{Functions}
+use Rattle.ps_frame.specs.Tables.{Fields}
+use Rattle.ps_frame.specs.Trees.{tree_at}
+use Rattle.ps_frame.specs.Typing.{kind_over}
+use Rattle.ps_meaning.specs.Steps.{named_trees, select}
+use Rattle.ps_validate.specs.Nodes.{GivesSchema}
+use Rattle.sound_plans.specs.Tested.{is_reduction}
+use Rattle.sound_plans.proofs.Fits.{taken, named, reduce-fit}
+use Rattle.sound_plans.proofs.Testing.{as-named}
+use Rattle.sound_plans.proofs.kinds.reduce.Goals as goal
+
+pub returns-clause-fit : goal.returns-clause-fit
+returns-clause-fit g c =
+    let f = tree_at c.args.arena.now.items in
+    taken (λ (s : Fields). (F : Functions) → GivesSchema F (select (named_trees f c.args.selectors.now)) (c.args.input.now ∷ []) s) c.select_schema-given.result c.args.schema.now c.is_given.result c.is_given.ensures.given c.select_schema-given.ensures.given
+    (λ p F. reduce-fit F c.args.input.now c.args.schema.now (named_trees f c.args.selectors.now) (named (λ e. is_some (kind_over c.args.input.now e)) f c.args.selectors.now (sym c.in_ok-typed.ensures.pass ∙ c.if-not-typed.false)) (named (is_reduction) f c.args.selectors.now (sym c.in_ok-reductions.ensures.pass ∙ c.if-not-reductions.false)) (p F))
+
+pub select_schema-given-requires : goal.select_schema-given-requires
+select_schema-given-requires g c = as-named (tree_at c.args.arena.now.items) c.args.selectors.now c.requires.selectors

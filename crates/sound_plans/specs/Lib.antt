@@ -1,0 +1,4 @@
+pub mod Fit
+pub mod Named
+pub mod Read
+pub mod Tested

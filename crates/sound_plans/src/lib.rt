@@ -1,0 +1,9 @@
+//! Whether physical plans are sound.
+#![tactic(auto)]
+
+mod exprs;
+mod given;
+mod kinds;
+mod many;
+mod nodes;
+pub mod plans;
