@@ -76,11 +76,9 @@ class Documents(Command):
 
     def test_the_physical_plan(self) -> None:
         status, output, told = self.nav("plan", self.example("totals"), "--physical")
-        if status:
-            self.assertEqual((status, output), (1, ""))
-            self.assertRegex(told, r"\Anav: this program has no command `explain` yet[^\n]*\n\Z")
-        else:
-            self.assertTrue(output)
+        self.assertEqual((status, told), (0, ""))
+        self.assertIn(" equi-join ", output)
+        self.assertTrue(output.splitlines()[-1].split()[1].endswith("in-memory-sink"))
 
     def test_help(self) -> None:
         for words in (

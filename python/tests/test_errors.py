@@ -124,13 +124,8 @@ class Refusals(unittest.TestCase):
                 self.assertEqual((type(made), made.status, made.line), (kind, status, line))
         self.assertIsInstance(refusal(Reply(77, b"", "?")), nav.ProgramFailed)
 
-    def test_no_command_explain_yet(self) -> None:
-        try:
-            text = frame().explain()
-        except nav.NotYet as error:
-            self.assertIn("no command `explain` yet", str(error))
-        else:
-            self.assertTrue(text)
+    def test_a_physical_plan_is_told(self) -> None:
+        self.assertTrue(frame().explain().startswith("0 in-memory-source "))
 
 
 class Program(unittest.TestCase):

@@ -7,6 +7,7 @@ import unittest
 
 import navgrieso as nav
 from navgrieso import col, lit, when
+from navgrieso.program import ask
 
 EXAMPLES = os.path.join(os.path.dirname(__file__), "..", "..", "examples")
 
@@ -160,6 +161,15 @@ class Examples(unittest.TestCase):
         for name in BUILT:
             with self.subTest(name):
                 self.assertEqual(nav.answer(text_of(f"{name}.json")).csv(), text_of(f"{name}.csv"))
+
+    def test_physical_plans(self) -> None:
+        plans = {name for name in os.listdir(EXAMPLES) if name.endswith(".plan")}
+        self.assertIn("totals.plan", plans)
+        for plan in plans:
+            with self.subTest(plan):
+                document = text_of(plan.removesuffix(".plan") + ".json")
+                reply = ask(["explain"], document.encode(), None)
+                self.assertEqual((reply.status, reply.output.decode()), (0, text_of(plan)))
 
     def test_documents_are_those_of_the_examples(self) -> None:
         for name in ALIKE:

@@ -151,6 +151,34 @@ fn documents_are_answered_or_refused(rt: HostRuntime) -> Result<(), Fail> {
     Ok(())
 }
 
+// A document, and how its explanation ends: the physical plan, also where a run would end with a fault, or a refusal.
+const EXPLAINED: &str = r#"
+{"tables":[[["a","int",[1,2,3]],["b","int",[4,5,6]]]],"exprs":[["col","a"],["sum",0],["col","b"]],"nodes":[["scan",0,null],["select",0,[["s",1],["b",2]]],["sink",1]],"root":2} -> 0 in-memory-source 0 -/1 multiplexer 0 0.0/2 reduce 1 1.1/3 zip 1 1.0,2.0/4 select 1 3.0/5 in-memory-sink 2 4.0
+{"tables":[[["t","str",["x"]]]],"exprs":[["col","t"],["cast",0,"int",true]],"nodes":[["scan",0,null],["select",0,[["n",1]]],["sink",1]],"root":2} -> 0 in-memory-source 0 -/1 select 1 0.0/2 in-memory-sink 2 1.0
+{"tables":[[["a","int",[3,1,2]]]],"exprs":[],"nodes":[["scan",0,null],["slice",0,-2,1],["sink",1]],"root":2} -> 0 in-memory-source 0 -/1 negative-slice 1 0.0/2 in-memory-sink 2 1.0
+{"tables":[[["a","int",[1]]]],"exprs":[["col","z"]],"nodes":[["scan",0,null],["select",0,[["x",0]]],["sink",1]],"root":2} -> 4: ColumnNotFound at 1: z
+{"tables":[],"exprs":[],"nodes":[],"root":0} -> 4: InvalidPlan Shape at 0
+{"tables":[],"names":[],"query":"from t"} -> 3: BadDocument
+[1.5] -> 3: BadDocument
+ -> 3: BadJson
+"#;
+
+#[test]
+fn documents_are_explained_or_refused(rt: HostRuntime) -> Result<(), Fail> {
+    for line in EXPLAINED.trim().lines() {
+        let Some((document, wanted)) = line.split_once(" -> ") else {
+            return Err(Fail::from("a document without an end"));
+        };
+        let given = Given {
+            words: &["explain"],
+            ..whole(document)
+        };
+        let left = run(&rt, &given)?;
+        assert_eq!(rt; end(rt.alloc(), &left)?.as_str(), wanted, "of {document}");
+    }
+    Ok(())
+}
+
 // How a run of these words over the filter ends.
 fn end_of<R: Threads + Wait + Sync + Alloc<A = Global>>(
     rt: &R,
@@ -176,8 +204,10 @@ fn other_words_are_no_command(rt: HostRuntime) -> Result<(), Fail> {
 
 const COMMANDS: &str = "run --serial -> a/2/3
 run --rows 1 --workers 256 --partitions 3 --seed 7 -> a/2/3
+explain -> 0 in-memory-source 0 -/1 filter 1 0.0/2 in-memory-sink 2 1.0
+explain --serial --rows 1 --workers 256 -> 0 in-memory-source 0 -/1 filter 1 0.0/2 in-memory-sink 2 1.0
 --version -> plan_tool 0.1.0
---help -> plan_tool answers queries: a document of tables and a plan, or for `text` of tables, their names and a query, on standard input, the table as CSV on standard output.//plan_tool run [--workers N] [--rows N] [--partitions N] [--seed N] [--serial]/plan_tool text [--workers N] [--rows N] [--partitions N] [--seed N] [--serial]/plan_tool --help/plan_tool --version";
+--help -> plan_tool answers queries: a document of tables and a plan, or for `text` of tables, their names and a query, on standard input, the table as CSV on standard output, or for `explain` the physical plan.//plan_tool run [--workers N] [--rows N] [--partitions N] [--seed N] [--serial]/plan_tool text [--workers N] [--rows N] [--partitions N] [--seed N] [--serial]/plan_tool explain [--workers N] [--rows N] [--partitions N] [--seed N] [--serial]/plan_tool --help/plan_tool --version";
 
 #[test]
 fn options_change_no_answer_and_help_is_told(rt: HostRuntime) -> Result<(), Fail> {

@@ -19,6 +19,7 @@ fn told(alloc: Global, command: Option<Command>) -> Result<String, AllocError> {
     let (name, options, serial) = match command {
         Some(Command::Run { options, serial }) => ("run", options, serial),
         Some(Command::Text { options, serial }) => ("text", options, serial),
+        Some(Command::Explain) => return String::from_str(alloc, "explain"),
         Some(Command::Help) => return String::from_str(alloc, "help"),
         Some(Command::Version) => return String::from_str(alloc, "version"),
         None => return String::from_str(alloc, "none"),
@@ -40,7 +41,11 @@ run --workers 00000000000000000001 -> run 1 100000 16 0 false
 --help -> help
 --version -> version
  -> none
-explain -> none
+explain -> explain
+explain --serial --workers 0004 --rows 1 -> explain
+explain --workers 257 -> none
+explain run -> none
+run explain -> none
 trace -> none
 make 3 -> none
 --help run -> none

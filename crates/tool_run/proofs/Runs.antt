@@ -1,6 +1,7 @@
 -- What follows of how a run ended.
 use Rattle.std.proofs.Common.{◌≡◌, ◌⊎◌, ◌==◌, inl, inr, ℕ, ◌<◌, ◌≤◌, List, [], length, refl, sym, ◌∙◌, ap, subst, arith}
-use Rattle.std.specs.Prelude.{MatchBool, Option, Some, None, ⊤}
+use Rattle.std.specs.Prelude.{MatchBool, Option, Some, None, String, string_bytes, ⊤}
+use Rattle.std.specs.declared.alloc.Global.{Global}
 use Rattle.ps_frame.specs.Functions.{Functions, IsLawful}
 use Rattle.ps_frame.specs.declared.value.DataFault.TheVariants as fault
 use Rattle.ps_meaning.specs.Errors.{fault_error}
@@ -16,9 +17,9 @@ use Rattle.text_queries.specs.Queries.{Query}
 use Rattle.ps_plan.specs.PlanMeanings.{NodeMayFault, NothingBreaks}
 use Rattle.ps_plan.specs.Plans.{Plan}
 use Rattle.ps_plan.specs.Refusals.{IsValid}
-use Rattle.tool_words.proofs.OneCommand.{not-help, not-text, not-version, text-not-help, text-not-version}
-use Rattle.tool_words.specs.Words.{AreWords, IsHelp, IsRun, IsText, IsVersion, ReadsDocument}
-use Rattle.tool_run.specs.Answers.{HasPlan, IsFaultLine, IsNoPlanLine, IsPlanText, IsRefusalLine, IsRowsLine, IsUnanswered, error_line}
+use Rattle.tool_words.proofs.OneCommand.{explain-not-help, explain-not-version, not-explain, not-help, not-text, not-version, text-not-explain, text-not-help, text-not-version}
+use Rattle.tool_words.specs.Words.{AreWords, AsksTable, IsExplain, IsHelp, IsRun, IsText, IsVersion, ReadsDocument, ReadsPlan}
+use Rattle.tool_run.specs.Answers.{HasPlan, IsAnswerText, IsExplanation, IsFaultLine, IsNoPlanLine, IsPlanText, IsRefusalLine, IsRowsLine, IsUnanswered, error_line}
 use Rattle.tool_run.specs.Asked.{HasNoReading, HasUnknownTable, IsAskedPlan, IsTextPlan, IsWantedBy, IsWantedDocument, Words}
 use Rattle.tool_run.specs.declared.answer.Wanted.{Wanted}
 use Rattle.tool_run.specs.declared.answer.Wanted.TheVariants as wanted
@@ -37,13 +38,32 @@ wanted-of : (words : Words) (plan : Plan) (bytes : List ℕ) → IsAskedPlan wor
 wanted-of words plan bytes (inl (run, d)) = inl (run, record { plan = plan; is_document = d })
 wanted-of words plan bytes (inr (text, (asked, d, q))) = inr (text, record { asked = asked; is_document = d })
 
+-- words that read a plan read no query, and ask for a table or for an explanation
+plan-not-text : (words : Words) → ReadsPlan words → ¬ IsText words
+plan-not-text words (inl run) text = not-text words run text
+plan-not-text words (inr explain) text = text-not-explain words text explain
+
+pub table-not-explain : (words : Words) → AsksTable words → ¬ IsExplain words
+table-not-explain words (inl run) explain = not-explain words run explain
+table-not-explain words (inr text) explain = text-not-explain words text explain
+
+pub table-reads : (words : Words) → AsksTable words → ReadsDocument words
+table-reads words (inl run) = inl (inl run)
+table-reads words (inr text) = inr text
+
+-- a plan that is answered is valid
+answered-valid : (F : Functions) (words : Words) (plan : Plan) (text : List ℕ) → ReadsDocument words → IsAnswerText F words plan text → IsValid F plan
+answered-valid F words plan text (inl (inl run)) a = (a.table (inl run)).1.valid
+answered-valid F words plan text (inl (inr explain)) a = (a.explanation explain).0
+answered-valid F words plan text (inr asked) a = (a.table (inr asked)).1.valid
+
 -- a query that asks for a plan has a reading, and its names are tables
 reads-of : (words : Words) (plan : Plan) (bytes : List ℕ) → IsAskedPlan words bytes plan → HasNoReading words bytes → ⊥
-reads-of words plan bytes (inl (run, d)) (text, none) = not-text words run text
+reads-of words plan bytes (inl (reads, d)) (text, none) = plan-not-text words reads text
 reads-of words plan bytes (inr (text, (asked, d, q))) (same, (other, e, none)) = none q.query (subst (λ (a : Asked). ReadsAs a.query q.query) (one_query asked other bytes d e) q.reads)
 
 known-of : (words : Words) (plan : Plan) (bytes : List ℕ) → IsAskedPlan words bytes plan → HasUnknownTable words bytes → ⊥
-known-of words plan bytes (inl (run, d)) (text, unknown) = not-text words run text
+known-of words plan bytes (inl (reads, d)) (text, unknown) = plan-not-text words reads text
 known-of words plan bytes (inr (text, (asked, d, q))) (same, (other, e, (query, reads, (name, unknown)))) =
     let one : other ≡ asked = one_query other asked bytes e d in
     let alike : q.query ≡ query = q.only query (subst (λ (a : Asked). ReadsAs a.query query) one reads) in
@@ -65,24 +85,25 @@ nothing-faults F plan nothing n f (reached, inr (rows, large)) = (nothing n reac
 
 -- words that want a document are words, and ask for nothing else
 are-words_of : (words : Words) → ReadsDocument words → AreWords words
-are-words_of words (inl run) = inl run
-are-words_of words (inr text) = inr (inl text)
+are-words_of words reads = inl reads
 
 pub reads-not-help : (words : Words) → ReadsDocument words → ¬ IsHelp words
-reads-not-help words (inl run) = not-help words run
+reads-not-help words (inl (inl run)) = not-help words run
+reads-not-help words (inl (inr explain)) = explain-not-help words explain
 reads-not-help words (inr text) = text-not-help words text
 
 pub reads-not-version : (words : Words) → ReadsDocument words → ¬ IsVersion words
-reads-not-version words (inl run) = not-version words run
+reads-not-version words (inl (inl run)) = not-version words run
+reads-not-version words (inl (inr explain)) = explain-not-version words explain
 reads-not-version words (inr text) = text-not-version words text
 
 module _ (F : Functions) (words : Words) (s : Outside) where
   are-words : (text : List ℕ) → IsToolText F words s.left text → AreWords words
   are-words text (inl r) = are-words_of words r.0
-  are-words text (inr (inl h)) = inr (inr (inl h.0))
-  are-words text (inr (inr v)) = inr (inr (inr v.0))
+  are-words text (inr (inl h)) = inr (inl h.0)
+  are-words text (inr (inr v)) = inr (inr v.0)
 
-  of-document : ReadsDocument words → (text : List ℕ) → IsToolText F words s.left text → OfPlan words s.left (λ plan. IsPlanText F plan text)
+  of-document : ReadsDocument words → (text : List ℕ) → IsToolText F words s.left text → OfPlan words s.left (λ plan. IsAnswerText F words plan text)
   of-document reads text (inl r) = r.1
   of-document reads text (inr (inl h)) = absurd (reads-not-help words reads h.0)
   of-document reads text (inr (inr v)) = absurd (reads-not-version words reads v.0)
@@ -94,7 +115,7 @@ module _ (F : Functions) (words : Words) (s : Outside) where
       (MatchBool (status == 2) (AreWords words → ⊥)
       (MatchBool (status == 3) (OfBytes s.left (λ bytes. IsNoPlanLine words bytes line))
       (MatchBool (status == 4) (OfPlan words s.left (λ plan. IsRefusalLine F plan line))
-      (MatchBool (status == 5) (OfPlan words s.left (λ plan. IsFaultLine F plan line))
+      (MatchBool (status == 5) (AsksTable words × OfPlan words s.left (λ plan. IsFaultLine F plan line))
       (MatchBool (status == 6) (Rose s.read_faults s.read_faults_after)
       (MatchBool (status == 7) (WritesFront (IsToolText F words s.left) s.written s.written_after × Rose s.write_faults s.write_faults_after)
       (MatchBool (status == 8) (IsLonger max_document_bytes s.left)
@@ -108,7 +129,7 @@ module _ (F : Functions) (words : Words) (s : Outside) where
   says outcome.BadQuery e = λ bytes is. let r = e.0.1 bytes is in (r.0, inr (inr (inl (r.1, refl))))
   says outcome.UnknownTable e = λ bytes is. let r = e.0.1 bytes is in (r.0, inr (inr (inr (r.1, refl))))
   says (outcome.Refused line) e = e.0.1
-  says (outcome.Faulted line) e = e.0.1
+  says (outcome.Faulted line) e = e.0
   says outcome.ReadFault e = e.0.1
   says outcome.WriteFault e = e
   says outcome.TooLong e = e.0.1
@@ -124,7 +145,7 @@ module _ (F : Functions) (words : Words) (s : Outside) where
       (short, (plan, asked, rows-of plan bytes asked line faulted))
     where
       rows-of : (plan : Plan) (bytes : List ℕ) → IsAskedPlan words bytes plan → (line : List ℕ) → IsFaultLine F plan line → IsRowsLine F plan line
-      rows-of plan bytes (inl (run, d)) line h = absurd (not-text words run text)
+      rows-of plan bytes (inl (reads, d)) line h = absurd (plan-not-text words reads text)
       rows-of plan bytes (inr (same, (asked, d, q))) line (e, (valid, f), is) =
           let rows : f.fault ≡ fault.Rows = rows-alone F (table_named asked.names asked.tables) q.query plan f.node f.fault lawful q.is_tree valid f.may in
           (f.node, subst (NodeMayFault F plan f.node) rows f.may, is ∙ ap error_line (f.is ∙ ap (fault_error f.node) rows))
@@ -134,8 +155,9 @@ module _ (F : Functions) (words : Words) (s : Outside) where
     of_outcome = (o, is, refl);
     no_plan = λ h. end-says o e 3 (sym is ∙ h);
     refused = λ h. end-says o e 4 (sym is ∙ h);
-    faulted = λ h. end-says o e 5 (sym is ∙ h);
-    queries_fault_by_rows = λ h text. rows-line lawful text (line_of o) (end-says o e 5 (sym is ∙ h));
+    faulted = λ h. (end-says o e 5 (sym is ∙ h)).1;
+    tables_fault = λ h. (end-says o e 5 (sym is ∙ h)).0;
+    queries_fault_by_rows = λ h text. rows-line lawful text (line_of o) (end-says o e 5 (sym is ∙ h)).1;
   }
 
   pub end-unknown : (o : Outcome) → IsEnd F words s o → (AreWords words → ⊥) → status_of o ≡ 2
@@ -146,7 +168,7 @@ module _ (F : Functions) (words : Words) (s : Outside) where
   end-unknown outcome.BadQuery e none = absurd (none (are-words_of words e.0.0))
   end-unknown outcome.UnknownTable e none = absurd (none (are-words_of words e.0.0))
   end-unknown (outcome.Refused line) e none = absurd (none (are-words_of words e.0.0))
-  end-unknown (outcome.Faulted line) e none = absurd (none (are-words_of words e.0.0))
+  end-unknown (outcome.Faulted line) e none = absurd (none (are-words_of words (table-reads words e.0.0)))
   end-unknown outcome.ReadFault e none = absurd (none (are-words_of words e.0.0))
   end-unknown outcome.WriteFault e none = absurd (none (are-words e.0.0 e.0.1))
   end-unknown outcome.TooLong e none = absurd (none (are-words_of words e.0.0))
@@ -160,7 +182,7 @@ module _ (F : Functions) (words : Words) (s : Outside) where
   end-reads outcome.BadQuery e a b c d = e.0.0
   end-reads outcome.UnknownTable e a b c d = e.0.0
   end-reads (outcome.Refused line) e a b c d = e.0.0
-  end-reads (outcome.Faulted line) e a b c d = e.0.0
+  end-reads (outcome.Faulted line) e a b c d = table-reads words e.0.0
   end-reads outcome.ReadFault e a b c d = e.0.0
   end-reads outcome.WriteFault e a b c d = absurd (c refl)
   end-reads outcome.TooLong e a b c d = e.0.0
@@ -214,8 +236,12 @@ module _ (F : Functions) (words : Words) (s : Outside) where
     told : {Q : Plan → Type 0} → OfPlan words s.left Q → (plan : Plan) × P plan × Q plan
     told h = let p = (h bytes is.0).1 in (p.0, each p.0 p.1, p.2)
 
-    written : (text : List ℕ) → IsToolText F words s.left text → (plan : Plan) × P plan × IsPlanText F plan text
+    written : (text : List ℕ) → IsToolText F words s.left text → (plan : Plan) × P plan × IsAnswerText F words plan text
     written text t = told (of-document reads text t)
+
+    -- a fault is none of plans that nothing breaks
+    unfaulted : ((plan : Plan) → P plan → NothingBreaks F plan) → (line : String Global) → AsksTable words × OfPlan words s.left (λ plan. IsFaultLine F plan (string_bytes line)) → ⊥
+    unfaulted nothing line e = let (p, is, fault) = told e.1 in let f = fault.1.1 in nothing-faults F p (nothing p is) f.node f.fault f.may
 
     module _ (plan : Plan) (asked : IsAskedPlan words bytes plan) where
       no-json : OfBytes s.left (λ bytes. IsJson bytes → ⊥) → ⊥
@@ -231,7 +257,7 @@ module _ (F : Functions) (words : Words) (s : Outside) where
       no-table h = known-of words plan bytes asked (h bytes is.0).1
 
       all-invalid : ((plan : Plan) → P plan → IsValid F plan → ⊥) → (o : Outcome) → IsEnd F words s o → (status_of o ≡ 4) ⊎ (status_of o ≡ 6) ⊎ (status_of o ≡ 9)
-      all-invalid bad outcome.Written e = let (p, is, text) = written e.0.0 e.0.1 in absurd (bad p is text.1.valid)
+      all-invalid bad outcome.Written e = let (p, is, text) = written e.0.0 e.0.1 in absurd (bad p is (answered-valid F words p e.0.0 reads text))
       all-invalid bad outcome.Usage e = absurd (e.0 (are-words_of words reads))
       all-invalid bad outcome.BadJson e = absurd (no-json e.0.1)
       all-invalid bad outcome.BadDocument e = absurd (no-document e.0.1)
@@ -240,46 +266,53 @@ module _ (F : Functions) (words : Words) (s : Outside) where
       all-invalid bad (outcome.Refused line) e = inl refl
       all-invalid bad (outcome.Faulted line) e = let (p, is, fault) = told e.0.1 in absurd (bad p is fault.1.0)
       all-invalid bad outcome.ReadFault e = inr (inl refl)
-      all-invalid bad outcome.WriteFault e = let (p, is, text) = written e.0.0 e.0.1 in absurd (bad p is text.1.valid)
+      all-invalid bad outcome.WriteFault e = let (p, is, text) = written e.0.0 e.0.1 in absurd (bad p is (answered-valid F words p e.0.0 reads text))
       all-invalid bad outcome.TooLong e = absurd (not-long s.left bytes is e.0.1)
       all-invalid bad outcome.OutOfMemory e = inr (inr refl)
 
-      all-complete : ((plan : Plan) → P plan → IsValid F plan × NothingBreaks F plan) → (Rose s.read_faults s.read_faults_after → ⊥) → (Rose s.write_faults s.write_faults_after → ⊥) → (o : Outcome) → IsEnd F words s o → (status_of o ≡ 0) ⊎ (status_of o ≡ 9)
-      all-complete good reading writes outcome.Written e = inl refl
-      all-complete good reading writes outcome.Usage e = absurd (e.0 (are-words_of words reads))
-      all-complete good reading writes outcome.BadJson e = absurd (no-json e.0.1)
-      all-complete good reading writes outcome.BadDocument e = absurd (no-document e.0.1)
-      all-complete good reading writes outcome.BadQuery e = absurd (no-reading e.0.1)
-      all-complete good reading writes outcome.UnknownTable e = absurd (no-table e.0.1)
-      all-complete good reading writes (outcome.Refused line) e = let (p, is, refused) = told e.0.1 in let r = refused.1 in absurd ((good p is).0 r.node r.refusal r.refused)
-      all-complete good reading writes (outcome.Faulted line) e = let (p, is, fault) = told e.0.1 in let f = fault.1.1 in absurd (nothing-faults F p (good p is).1 f.node f.fault f.may)
-      all-complete good reading writes outcome.ReadFault e = absurd (reading e.0.1)
-      all-complete good reading writes outcome.WriteFault e = absurd (writes e.1)
-      all-complete good reading writes outcome.TooLong e = absurd (not-long s.left bytes is e.0.1)
-      all-complete good reading writes outcome.OutOfMemory e = inr refl
+      all-complete : ((plan : Plan) → P plan → IsValid F plan) → ((line : String Global) → AsksTable words × OfPlan words s.left (λ plan. IsFaultLine F plan (string_bytes line)) → ⊥) → (Rose s.read_faults s.read_faults_after → ⊥) → (Rose s.write_faults s.write_faults_after → ⊥) → (o : Outcome) → IsEnd F words s o → (status_of o ≡ 0) ⊎ (status_of o ≡ 9)
+      all-complete good calm reading writes outcome.Written e = inl refl
+      all-complete good calm reading writes outcome.Usage e = absurd (e.0 (are-words_of words reads))
+      all-complete good calm reading writes outcome.BadJson e = absurd (no-json e.0.1)
+      all-complete good calm reading writes outcome.BadDocument e = absurd (no-document e.0.1)
+      all-complete good calm reading writes outcome.BadQuery e = absurd (no-reading e.0.1)
+      all-complete good calm reading writes outcome.UnknownTable e = absurd (no-table e.0.1)
+      all-complete good calm reading writes (outcome.Refused line) e = let (p, is, refused) = told e.0.1 in let r = refused.1 in absurd (good p is r.node r.refusal r.refused)
+      all-complete good calm reading writes (outcome.Faulted line) e = absurd (calm line e.0)
+      all-complete good calm reading writes outcome.ReadFault e = absurd (reading e.0.1)
+      all-complete good calm reading writes outcome.WriteFault e = absurd (writes e.1)
+      all-complete good calm reading writes outcome.TooLong e = absurd (not-long s.left bytes is e.0.1)
+      all-complete good calm reading writes outcome.OutOfMemory e = inr refl
 
-  -- the same of the words `run`, where a document has one plan
-  one-run : IsRun words → (bytes : List ℕ) (plan : Plan) → IsDocumentOf plan bytes → (other : Plan) → IsAskedPlan words bytes other → plan ≡ other
-  one-run run bytes plan d other (inl (same, e)) = one_plan plan other bytes d e
-  one-run run bytes plan d other (inr (text, e)) = absurd (not-text words run text)
+  -- the same of the words `run` and `explain`, where a document has one plan
+  one-asked : ReadsPlan words → (bytes : List ℕ) (plan : Plan) → IsDocumentOf plan bytes → (other : Plan) → IsAskedPlan words bytes other → plan ≡ other
+  one-asked reads bytes plan d other (inl (same, e)) = one_plan plan other bytes d e
+  one-asked reads bytes plan d other (inr (text, e)) = absurd (plan-not-text words reads text)
 
-  pub end-other : IsRun words → (bytes : List ℕ) → IsLeft s.left bytes → (IsDocument bytes → ⊥) → (o : Outcome) → IsEnd F words s o → (status_of o ≡ 3) ⊎ (status_of o ≡ 6) ⊎ (status_of o ≡ 9)
-  end-other run bytes is none o e = end-unasked (inl run) bytes is by o e
+  pub end-other : ReadsPlan words → (bytes : List ℕ) → IsLeft s.left bytes → (IsDocument bytes → ⊥) → (o : Outcome) → IsEnd F words s o → (status_of o ≡ 3) ⊎ (status_of o ≡ 6) ⊎ (status_of o ≡ 9)
+  end-other reads bytes is none o e = end-unasked (inl reads) bytes is by o e
     where
       by : (plan : Plan) → IsAskedPlan words bytes plan → ⊥
       by plan (inl (same, d)) = none (record { plan = plan; is_document = d })
-      by plan (inr (text, d)) = not-text words run text
+      by plan (inr (text, d)) = plan-not-text words reads text
 
-  pub end-invalid : IsRun words → (plan : Plan) → IsPlanLeft s.left plan → (IsValid F plan → ⊥) → (o : Outcome) → IsEnd F words s o → (status_of o ≡ 4) ⊎ (status_of o ≡ 6) ⊎ (status_of o ≡ 9)
-  end-invalid run plan (bytes, is, d) bad o e = all-invalid (inl run) bytes is (λ p. plan ≡ p) (one-run run bytes plan d) plan (inl (run, d)) (λ p same valid. bad (subst (IsValid F) (sym same) valid)) o e
+  pub end-invalid : ReadsPlan words → (plan : Plan) → IsPlanLeft s.left plan → (IsValid F plan → ⊥) → (o : Outcome) → IsEnd F words s o → (status_of o ≡ 4) ⊎ (status_of o ≡ 6) ⊎ (status_of o ≡ 9)
+  end-invalid reads plan (bytes, is, d) bad o e = all-invalid (inl reads) bytes is (λ p. plan ≡ p) (one-asked reads bytes plan d) plan (inl (reads, d)) (λ p same valid. bad (subst (IsValid F) (sym same) valid)) o e
 
   pub end-complete : IsRun words → (plan : Plan) → IsPlanLeft s.left plan → IsValid F plan → NothingBreaks F plan → (Rose s.read_faults s.read_faults_after → ⊥) → (Rose s.write_faults s.write_faults_after → ⊥) → (o : Outcome) → IsEnd F words s o → (status_of o ≡ 0) ⊎ (status_of o ≡ 9)
   end-complete run plan (bytes, is, d) valid nothing reading writes o e =
-      all-complete (inl run) bytes is (λ p. plan ≡ p) (one-run run bytes plan d) plan (inl (run, d)) (λ p same. (subst (IsValid F) same valid, subst (NothingBreaks F) same nothing)) reading writes o e
+      let asked = one-asked (inl run) bytes plan d in
+      all-complete (inl (inl run)) bytes is (λ p. plan ≡ p) asked plan (inl (inl run, d)) (λ p same. subst (IsValid F) same valid)
+      (unfaulted (inl (inl run)) bytes is (λ p. plan ≡ p) asked (λ p same. subst (NothingBreaks F) same nothing)) reading writes o e
+
+  pub end-explained : IsExplain words → (plan : Plan) → IsPlanLeft s.left plan → IsValid F plan → (Rose s.read_faults s.read_faults_after → ⊥) → (Rose s.write_faults s.write_faults_after → ⊥) → (o : Outcome) → IsEnd F words s o → (status_of o ≡ 0) ⊎ (status_of o ≡ 9)
+  end-explained explain plan (bytes, is, d) valid reading writes o e =
+      all-complete (inl (inr explain)) bytes is (λ p. plan ≡ p) (one-asked (inr explain) bytes plan d) plan (inl (inr explain, d)) (λ p same. subst (IsValid F) same valid)
+      (λ line f. table-not-explain words f.0 explain) reading writes o e
 
   -- the same of the words `text`
   of-text : IsText words → (bytes : List ℕ) (plan : Plan) → IsAskedPlan words bytes plan → IsTextPlan bytes plan
-  of-text text bytes plan (inl (run, d)) = absurd (not-text words run text)
+  of-text text bytes plan (inl (reads, d)) = absurd (plan-not-text words reads text)
   of-text text bytes plan (inr (same, p)) = p
 
   pub end-other_text : IsText words → (bytes : List ℕ) → IsLeft s.left bytes → ((plan : Plan) → IsTextPlan bytes plan → ⊥) → (o : Outcome) → IsEnd F words s o → (status_of o ≡ 3) ⊎ (status_of o ≡ 6) ⊎ (status_of o ≡ 9)
@@ -290,7 +323,9 @@ module _ (F : Functions) (words : Words) (s : Outside) where
 
   pub end-complete_text : IsText words → (plan : Plan) → IsTextPlanLeft s.left plan → ((each : Plan) → IsTextPlanLeft s.left each → IsValid F each × NothingBreaks F each) → (Rose s.read_faults s.read_faults_after → ⊥) → (Rose s.write_faults s.write_faults_after → ⊥) → (o : Outcome) → IsEnd F words s o
       → (status_of o ≡ 0) ⊎ (status_of o ≡ 9)
-  end-complete_text text plan (bytes, is, p) good reading writes o e = all-complete (inr text) bytes is (IsTextPlan bytes) (of-text text bytes) plan (inr (text, p)) (λ q h. good q (bytes, is, h)) reading writes o e
+  end-complete_text text plan (bytes, is, p) good reading writes o e =
+      all-complete (inr text) bytes is (IsTextPlan bytes) (of-text text bytes) plan (inr (text, p)) (λ q h. (good q (bytes, is, h)).0)
+      (unfaulted (inr text) bytes is (IsTextPlan bytes) (of-text text bytes) (λ q h. (good q (bytes, is, h)).1)) reading writes o e
 
   -- a text that was written whole, or a front of it
   pub text-end : (text : List ℕ) → IsToolText F words s.left text → (ReadsDocument words → IsReadWhole s.left s.left_after) → (o : Outcome) → (o ≡ outcome.Written) ⊎ (o ≡ outcome.WriteFault) → (o ≡ outcome.Written → Appends s.written text s.written_after)
@@ -315,9 +350,9 @@ module _ (F : Functions) (words : Words) (s : Outside) where
         by-left (Some all) t given is = let whole : bytes ≡ given = (let a = t.0 in cc) in (subst (λ b. length b ≤ max_document_bytes) whole short, t.1)
 
     -- a text that answers them
-    pub answer-end : ReadsDocument words → (text : List ℕ) → HasPlan words bytes (λ plan. IsPlanText F plan text) → (o : Outcome) → (o ≡ outcome.Written) ⊎ (o ≡ outcome.WriteFault) → (o ≡ outcome.Written → Appends s.written text s.written_after)
+    pub answer-end : ReadsDocument words → (text : List ℕ) → HasPlan words bytes (λ plan. IsAnswerText F words plan text) → (o : Outcome) → (o ≡ outcome.Written) ⊎ (o ≡ outcome.WriteFault) → (o ≡ outcome.Written → Appends s.written text s.written_after)
         → (o ≡ outcome.WriteFault → AppendsFront s.written text s.written_after) → (o ≡ outcome.WriteFault → Rose s.write_faults s.write_faults_after) → IsEnd F words s o
-    answer-end reads text answers o = text-end text (inl (reads, of-bytes (λ b. HasPlan words b (λ plan. IsPlanText F plan text)) answers)) (λ _. read-whole) o
+    answer-end reads text answers o = text-end text (inl (reads, of-bytes (λ b. HasPlan words b (λ plan. IsAnswerText F words plan text)) answers)) (λ _. read-whole) o
 
     -- an outcome without one
     pub unanswered-end : ReadsDocument words → s.written_after ≡ s.written → (o : Outcome) → IsUnanswered F words bytes o → IsEnd F words s o
@@ -328,7 +363,7 @@ module _ (F : Functions) (words : Words) (s : Outside) where
     unanswered-end reads same outcome.BadQuery h = ((reads, of-bytes (λ b. IsUnanswered F words b outcome.BadQuery) h), same)
     unanswered-end reads same outcome.UnknownTable h = ((reads, of-bytes (λ b. IsUnanswered F words b outcome.UnknownTable) h), same)
     unanswered-end reads same (outcome.Refused line) h = ((reads, of-bytes (λ b. IsUnanswered F words b (outcome.Refused line)) h), same)
-    unanswered-end reads same (outcome.Faulted line) h = ((reads, of-bytes (λ b. IsUnanswered F words b (outcome.Faulted line)) h), same)
+    unanswered-end reads same (outcome.Faulted line) h = ((h.0, of-bytes (λ b. HasPlan words b (λ plan. IsFaultLine F plan (string_bytes line))) h.1), same)
     unanswered-end reads same outcome.ReadFault h = absurd h
     unanswered-end reads same outcome.WriteFault h = absurd h
     unanswered-end reads same outcome.TooLong h = absurd h
@@ -336,5 +371,13 @@ module _ (F : Functions) (words : Words) (s : Outside) where
 
 -- words that want something read a document
 pub reads-wanted : (words : Words) (w : Wanted) → IsWantedBy words w → ReadsDocument words
-reads-wanted words wanted.Plan h = inl h
-reads-wanted words wanted.Query h = inr h
+reads-wanted words (wanted.Plan options serial) h = inl (inl h)
+reads-wanted words (wanted.Query options serial) h = inr h
+reads-wanted words wanted.Explanation h = inl (inr h)
+
+-- a table answers words that ask for one, and an explanation those that ask for it
+pub table-answers : (F : Functions) (words : Words) (bytes text : List ℕ) → AsksTable words → HasPlan words bytes (λ plan. IsPlanText F plan text) → HasPlan words bytes (λ plan. IsAnswerText F words plan text)
+table-answers F words bytes text asks (plan, asked, answer) = (plan, asked, record { table = λ _. answer; explanation = λ explain. absurd (table-not-explain words asks explain) })
+
+pub explanation-answers : (F : Functions) (words : Words) (bytes text : List ℕ) → IsExplain words → HasPlan words bytes (λ plan. IsExplanation F plan text) → HasPlan words bytes (λ plan. IsAnswerText F words plan text)
+explanation-answers F words bytes text explain (plan, asked, answer) = (plan, asked, record { table = λ asks. absurd (table-not-explain words asks explain); explanation = λ _. answer })

@@ -8,10 +8,14 @@ use Rattle.ps_frame.specs.Lines.{refusal_line}
 use Rattle.ps_frame.specs.Tables.{Frame}
 use Rattle.ps_frame.specs.declared.refusal.PolarsError.{PolarsError}
 use Rattle.ps_frame.specs.declared.value.DataFault.TheVariants as fault
+use Rattle.physical_plans.specs.PhysicalPlans.{IsPhysicalPlan}
 use Rattle.ps_meaning.specs.Errors.{fault_error}
+use Rattle.ps_meaning.specs.Shape.{Shape}
+use Rattle.ps_phys.specs.Printed.{plan_text}
 use Rattle.ps_plan.specs.PlanMeanings.{NodeMayFault}
 use Rattle.ps_plan.specs.Plans.{Plan}
 use Rattle.ps_plan.specs.Refusals.{IsValid}
+use Rattle.tool_words.specs.Words.{AsksTable, IsExplain}
 use Rattle.tool_run.specs.Asked.{HasNoReading, HasUnknownTable, IsAskedPlan, IsWantedDocument, Words}
 use Rattle.tool_run.specs.declared.outcome.Outcome.{Outcome}
 use Rattle.tool_run.specs.declared.outcome.Outcome.TheVariants as outcome
@@ -23,6 +27,15 @@ HasPlan words bytes P = (plan : Plan) × IsAskedPlan words bytes plan × P plan
 -- the plan is valid, and the text is the CSV text of a whole table that its root means
 abbrev pub IsPlanText : Functions → Plan → List ℕ → Type 0
 IsPlanText F plan text = (table : Frame) × IsQueryAnswer F plan table × (text ≡ csv_text_of table)
+
+-- the plan is valid, and the text is that of the physical plan which the rules of lowering give for it
+abbrev pub IsExplanation : Functions → Plan → List ℕ → Type 0
+IsExplanation F plan text = IsValid F plan × ((shape : Shape) × IsPhysicalPlan F plan shape × (text ≡ plan_text shape))
+
+-- the text answers the plan as the words ask
+pub record IsAnswerText (F : Functions) (words : Words) (plan : Plan) (text : List ℕ) : Type 0 where
+  pub table : AsksTable words → IsPlanText F plan text
+  pub explanation : IsExplain words → IsExplanation F plan text
 
 -- the line of an error
 abbrev pub error_line : PolarsError → List ℕ
@@ -55,6 +68,6 @@ IsUnanswered F words bytes outcome.BadDocument = IsJson bytes × ¬ IsWantedDocu
 IsUnanswered F words bytes outcome.BadQuery = HasNoReading words bytes
 IsUnanswered F words bytes outcome.UnknownTable = HasUnknownTable words bytes
 IsUnanswered F words bytes (outcome.Refused line) = HasPlan words bytes (λ plan. IsRefusalLine F plan (string_bytes line))
-IsUnanswered F words bytes (outcome.Faulted line) = HasPlan words bytes (λ plan. IsFaultLine F plan (string_bytes line))
+IsUnanswered F words bytes (outcome.Faulted line) = AsksTable words × HasPlan words bytes (λ plan. IsFaultLine F plan (string_bytes line))
 IsUnanswered F words bytes outcome.OutOfMemory = ⊤
 IsUnanswered F words bytes _ = ⊥

@@ -1,4 +1,4 @@
--- The plan that a document asks for: for `run` the plan that it holds, for `text` the plan of its query.
+-- The plan that a document asks for: for `run` and `explain` the plan that it holds, for `text` the plan of its query.
 use Rattle.std.specs.Prelude.{ℕ, ◌≡◌, ◌⊎◌, List, None, Some, String}
 use Rattle.std.specs.declared.alloc.Global.{Global}
 use Rattle.ps_document.specs.Document.{IsDocument, IsDocumentOf}
@@ -9,7 +9,7 @@ use Rattle.text_queries.specs.Grammar.{ReadsAs}
 use Rattle.text_queries.specs.Queries.{Query}
 use Rattle.tool_run.specs.declared.answer.Wanted.{Wanted}
 use Rattle.tool_run.specs.declared.answer.Wanted.TheVariants as wanted
-use Rattle.tool_words.specs.Words.{IsRun, IsText}
+use Rattle.tool_words.specs.Words.{IsExplain, IsRun, IsText, ReadsPlan}
 
 abbrev pub Words : Type 0
 Words = List (String Global)
@@ -28,16 +28,17 @@ IsTextPlan bytes plan = (asked : Asked) × IsQueryDocumentOf asked bytes × IsQu
 
 -- the bytes are a document as the words want it, and this is a plan for which it asks; a document of a plan has only one
 abbrev pub IsAskedPlan : Words → List ℕ → Plan → Type 0
-IsAskedPlan words bytes plan = (IsRun words × IsDocumentOf plan bytes) ⊎ (IsText words × IsTextPlan bytes plan)
+IsAskedPlan words bytes plan = (ReadsPlan words × IsDocumentOf plan bytes) ⊎ (IsText words × IsTextPlan bytes plan)
 
--- the words want a document that holds this
+-- the words want this of a document
 abbrev pub IsWantedBy : Words → Wanted → Type 0
-IsWantedBy words wanted.Plan = IsRun words
-IsWantedBy words wanted.Query = IsText words
+IsWantedBy words (wanted.Plan options serial) = IsRun words
+IsWantedBy words (wanted.Query options serial) = IsText words
+IsWantedBy words wanted.Explanation = IsExplain words
 
 -- the bytes are a document as the words want it
 abbrev pub IsWantedDocument : Words → List ℕ → Type 0
-IsWantedDocument words bytes = (IsRun words × IsDocument bytes) ⊎ (IsText words × IsQueryDocument bytes)
+IsWantedDocument words bytes = (ReadsPlan words × IsDocument bytes) ⊎ (IsText words × IsQueryDocument bytes)
 
 -- the bytes are a document of a query, and its text reads as none
 abbrev pub HasNoReading : Words → List ℕ → Type 0

@@ -1,10 +1,10 @@
 -- What a run of the program is given, what it may write, and how it may end.
-use Rattle.std.specs.Prelude.{◌≡◌, ◌≤◌, ◌⊎◌, ℕ, List, [], length, Option, Some, codes}
+use Rattle.std.specs.Prelude.{◌≡◌, ◌≤◌, ◌⊎◌, ℕ, List, [], length, Option, Some, codes, string_bytes}
 use Rattle.ps_document.specs.Document.{IsDocumentOf}
 use Rattle.ps_frame.specs.Functions.{Functions}
 use Rattle.ps_plan.specs.Plans.{Plan}
-use Rattle.tool_words.specs.Words.{AreWords, IsHelp, IsText, IsVersion, ReadsDocument}
-use Rattle.tool_run.specs.Answers.{HasPlan, IsFaultLine, IsNoPlanLine, IsPlanText, IsRefusalLine, IsRowsLine, IsUnanswered}
+use Rattle.tool_words.specs.Words.{AreWords, AsksTable, IsHelp, IsText, IsVersion, ReadsDocument}
+use Rattle.tool_run.specs.Answers.{HasPlan, IsAnswerText, IsFaultLine, IsNoPlanLine, IsRefusalLine, IsRowsLine, IsUnanswered}
 use Rattle.tool_run.specs.Asked.{IsTextPlan, Words}
 use Rattle.tool_run.specs.Outcomes.{line_of, status_of}
 use Rattle.tool_run.specs.Outside.{IsLonger, Rose, Writes, WritesFront}
@@ -41,7 +41,7 @@ IsReadWhole left after = OfBytes left (λ _. after ≡ Some [])
 
 -- what is written for `--help` and for `--version`
 abbrev pub help_text : List ℕ
-help_text = codes "plan_tool answers queries: a document of tables and a plan, or for `text` of tables, their names and a query, on standard input, the table as CSV on standard output.\n\nplan_tool run [--workers N] [--rows N] [--partitions N] [--seed N] [--serial]\nplan_tool text [--workers N] [--rows N] [--partitions N] [--seed N] [--serial]\nplan_tool --help\nplan_tool --version\n"
+help_text = codes "plan_tool answers queries: a document of tables and a plan, or for `text` of tables, their names and a query, on standard input, the table as CSV on standard output, or for `explain` the physical plan.\n\nplan_tool run [--workers N] [--rows N] [--partitions N] [--seed N] [--serial]\nplan_tool text [--workers N] [--rows N] [--partitions N] [--seed N] [--serial]\nplan_tool explain [--workers N] [--rows N] [--partitions N] [--seed N] [--serial]\nplan_tool --help\nplan_tool --version\n"
 
 abbrev pub version_text : List ℕ
 version_text = codes "plan_tool 0.1.0\n"
@@ -49,16 +49,17 @@ version_text = codes "plan_tool 0.1.0\n"
 -- a text that the program may write: for a document one that answers a plan for which it asks, else what was asked for
 abbrev pub IsToolText : Functions → Words → Option (List ℕ) → List ℕ → Type 0
 IsToolText F words left text =
-    (ReadsDocument words × OfPlan words left (λ plan. IsPlanText F plan text))
+    (ReadsDocument words × OfPlan words left (λ plan. IsAnswerText F words plan text))
     ⊎ (IsHelp words × (text ≡ help_text))
     ⊎ (IsVersion words × (text ≡ version_text))
 
--- the line of a run that ended with this status; where the document is the cause, the line says how, and no query ends with another fault than Rows
+-- the line of a run that ended with this status; where the document is the cause, the line says how. No explanation ends with a fault, and no query with another than Rows
 pub record IsLine (F : Functions) (words : Words) (left : Option (List ℕ)) (status : ℕ) (line : List ℕ) : Type 0 where
   pub of_outcome : (o : Outcome) × (status ≡ status_of o) × (line ≡ line_of o)
   pub no_plan : status ≡ 3 → OfBytes left (λ bytes. IsNoPlanLine words bytes line)
   pub refused : status ≡ 4 → OfPlan words left (λ plan. IsRefusalLine F plan line)
   pub faulted : status ≡ 5 → OfPlan words left (λ plan. IsFaultLine F plan line)
+  pub tables_fault : status ≡ 5 → AsksTable words
   pub queries_fault_by_rows : status ≡ 5 → IsText words → OfPlan words left (λ plan. IsRowsLine F plan line)
 
 -- what a source had left and what was written, and the counts of their faults, before and after a run
@@ -78,6 +79,7 @@ IsCause F words s outcome.Usage = ¬ AreWords words
 IsCause F words s outcome.OutOfMemory = AreWords words
 IsCause F words s outcome.ReadFault = ReadsDocument words × Rose s.read_faults s.read_faults_after
 IsCause F words s outcome.TooLong = ReadsDocument words × IsLonger max_document_bytes s.left
+IsCause F words s (outcome.Faulted line) = AsksTable words × OfPlan words s.left (λ plan. IsFaultLine F plan (string_bytes line))
 IsCause F words s o = ReadsDocument words × OfBytes s.left (λ bytes. IsUnanswered F words bytes o)
 
 -- an outcome that has its cause; what is written is a text, a front of one where a write failed, or nothing

@@ -1,18 +1,20 @@
 // The answer to a document.
 ghost use Rattle.std.specs.Prelude.{◌≡◌, ℕ, Err, IfErr, IfOk, List, Some};
-ghost use Rattle.tool_words.specs.Words.{IsRun, IsText};
+ghost use Rattle.tool_words.specs.Words.{IsExplain, IsRun, IsText};
 ghost use Rattle.query_document.specs.QueryDocuments.{IsNaming, asked_of};
 ghost use Rattle.text_plans.specs.QueryPlans.{first_unknown, query_tables, table_named};
 ghost use Rattle.text_queries.specs.Grammar.{ReadsAs};
 ghost use Rattle.text_queries.specs.Queries.{Query};
 ghost use Rattle.ps_exec.specs.Queries.{IsQueryAnswer, IsQueryError};
 ghost use Rattle.ps_survey.specs.Flaws.{plan_of};
-ghost use Rattle.tool_run.specs.Answers.{HasPlan, IsPlanText, IsUnanswered};
+ghost use Rattle.ps_validate.specs.Valid.{IsPlanError};
+ghost use Rattle.tool_run.specs.Answers.{HasPlan, IsAnswerText, IsExplanation, IsPlanText, IsUnanswered};
 ghost use Rattle.tool_run.specs.Asked.{IsQueryPlan, IsWantedBy, Words};
 ghost use Rattle.tool_run.specs.Errors.{IsOutcomeOf};
 
 use crate::csv_text::csv_text;
 use crate::outcome::Outcome;
+use plan_queries::query::plan_query;
 use ps_document::document::{Document, DocumentError, read_document};
 use ps_exec::gate::Gate;
 use ps_exec::query::{run_query, run_query_serial};
@@ -20,6 +22,7 @@ use ps_frame::frame::DataFrame;
 use ps_frame::functions::Functions;
 use ps_frame::refusal::{Compute, PolarsError, PolarsResult};
 use ps_options::options::Options;
+use ps_phys::text::plan_text;
 use query_document::document::{QueryDocument, read_query_document};
 use std::alloc::Global;
 use std::sync::Wait;
@@ -28,13 +31,25 @@ use text_plans::query_plan;
 use text_reading::read_query;
 use text_tokens::error::TextError;
 
-/// What a document is to hold.
+/// What is wanted of a document.
 #[derive(Clone, Copy, Debug, PartialEq, Eq)]
 pub(crate) enum Wanted {
-    /// A plan, as `run` wants it.
-    Plan,
-    /// The text of a query, as `text` wants it.
-    Query,
+    /// The table of its plan, as `run` wants it.
+    Plan {
+        /// How its query is run.
+        options: Options,
+        /// Whether it is run without workers.
+        serial: bool,
+    },
+    /// The table of its query, as `text` wants it.
+    Query {
+        /// How it is run.
+        options: Options,
+        /// Whether it is run without workers.
+        serial: bool,
+    },
+    /// The physical plan of its plan, as `explain` wants it.
+    Explanation,
 }
 
 /// The text that answers the document of these bytes, or how the run ends without one.
@@ -43,17 +58,20 @@ pub(crate) fn answer<R: Threads + Wait + Sync, F: Functions, G: Gate>(
     alloc: Global,
     bytes: Vec<u8>,
     wanted: Wanted,
-    options: &Options,
-    serial: bool,
     functions: &F,
     gate: &G,
 ) -> Result<Vec<u8>, Outcome>
-    ensures text { (words : Words) → IsWantedBy words wanted → IfOk result (λ text. HasPlan words bytes.items (λ plan. IsPlanText (F.told functions.now) plan text.items)) }
+    ensures text { (words : Words) → IsWantedBy words wanted → IfOk result (λ text. HasPlan words bytes.items (λ plan. IsAnswerText (F.told functions.now) words plan text.items)) }
     ensures outcome { (words : Words) → IsWantedBy words wanted → IfErr result (IsUnanswered (F.told functions.now) words bytes.items) }
 {
     match wanted {
-        Wanted::Plan => answer_plan(rt, alloc, bytes, options, serial, functions, gate),
-        Wanted::Query => answer_query(rt, alloc, bytes, options, serial, functions, gate),
+        Wanted::Plan { options, serial } => {
+            answer_plan(rt, alloc, bytes, &options, serial, functions, gate)
+        }
+        Wanted::Query { options, serial } => {
+            answer_query(rt, alloc, bytes, &options, serial, functions, gate)
+        }
+        Wanted::Explanation => explain(alloc, bytes, functions),
     }
 }
 
@@ -103,6 +121,45 @@ fn answer_query<R: Threads + Wait + Sync, F: Functions, G: Gate>(
             Err(error) => Err(unplanned(&error)),
         },
         Err(error) => Err(unread(error)),
+    }
+}
+
+/// The text of the physical plan of the document of these bytes, or how the run ends without one.
+fn explain<F: Functions>(alloc: Global, bytes: Vec<u8>, functions: &F) -> Result<Vec<u8>, Outcome>
+    ensures text { (words : Words) → IsExplain words → IfOk result (λ text. HasPlan words bytes.items (λ plan. IsExplanation (F.told functions.now) plan text.items)) }
+    ensures outcome { (words : Words) → IsExplain words → IfErr result (IsUnanswered (F.told functions.now) words bytes.items) }
+{
+    // By hand, since the contract says which outcome each error has.
+    match read_document(alloc, bytes) {
+        Ok(document) => match explained(alloc, document, functions) {
+            Ok(text) => Ok(text),
+            Err(error) => Err(unanswered(alloc, &error)),
+        },
+        Err(error) => Err(unread(error)),
+    }
+}
+
+/// The text of the physical plan of a document.
+fn explained<F: Functions>(
+    alloc: Global,
+    document: Document,
+    functions: &F,
+) -> PolarsResult<Vec<u8>>
+    ensures text { IfOk result (λ text. IsExplanation (F.told functions.now) (plan_of document.root document.nodes.items document.exprs.items) text.items) }
+    ensures error { IfErr result (IsPlanError (F.told functions.now) (plan_of document.root document.nodes.items document.exprs.items)) }
+{
+    let Document {
+        nodes,
+        mut exprs,
+        root,
+    } = document;
+    // Matches and no `?`: so the clause of each error is handed on as it stands.
+    match plan_query(alloc, root, nodes, &mut exprs, functions) {
+        Ok((nodes, root)) => match plan_text(alloc, &nodes, root) {
+            Ok(text) => Ok(text.into_bytes()),
+            Err(error) => Err(error),
+        },
+        Err(error) => Err(error),
     }
 }
 

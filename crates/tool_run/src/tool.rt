@@ -4,7 +4,7 @@ ghost use Rattle.ps_document.specs.Document.{IsDocument};
 ghost use Rattle.ps_plan.specs.PlanMeanings.{NothingBreaks};
 ghost use Rattle.ps_plan.specs.Plans.{Plan};
 ghost use Rattle.ps_plan.specs.Refusals.{IsValid};
-ghost use Rattle.tool_words.specs.Words.{AreWords, IsRun, IsText, ReadsDocument};
+ghost use Rattle.tool_words.specs.Words.{AreWords, IsExplain, IsRun, IsText, ReadsDocument, ReadsPlan};
 ghost use Rattle.tool_run.specs.Outcomes.{line_of};
 ghost use Rattle.tool_run.specs.Outside.{Appends, AppendsFront, IsLonger, Rose, Tells, Writes, WritesFront};
 ghost use Rattle.tool_run.specs.Asked.{IsTextPlan, IsWantedBy};
@@ -18,7 +18,6 @@ use crate::source::{Failed, Source};
 use crate::writing::write_whole;
 use ps_exec::gate::Gate;
 use ps_frame::functions::Functions;
-use ps_options::options::Options;
 use std::alloc::Global;
 use std::sync::Wait;
 use std::thread::Threads;
@@ -34,7 +33,8 @@ pub struct Ended {
 }
 
 /// Runs the program. With `run` it reads a document from the source, and writes the CSV text of the table that its plan
-/// means to `out`; with `text` a document of a query, whose plan it answers so; with `--help` and `--version` it writes what they ask for. Where it doesn't, it writes a line that
+/// means to `out`; with `text` a document of a query, whose plan it answers so; with `explain` it writes the text of the
+/// physical plan of its plan, and runs nothing; with `--help` and `--version` it writes what they ask for. Where it doesn't, it writes a line that
 /// says why to `err`.
 pub fn run_tool<R: Threads + Wait + Sync, F: Functions, G: Gate, S: Source, K: Sink, E: Sink>(
     rt: &R,
@@ -47,7 +47,8 @@ pub fn run_tool<R: Threads + Wait + Sync, F: Functions, G: Gate, S: Source, K: S
     gate: &G,
 ) -> Ended
     // The main theorem: with status 0, what was written is for `run` and `text` the CSV text of a whole table that the root
-    // of the plan means for which the document asks, and the document was read to its end.
+    // of the plan means for which the document asks, for `explain` the text of the physical plan that the rules of lowering
+    // give for it, and the document was read to its end.
     ensures answered { result.status ≡ 0 → Writes (IsToolText (F.told functions.now) words.now (S.left source.old)) (K.written out.old) (K.written out.new) }
     ensures read { result.status ≡ 0 → ReadsDocument words.now → IsReadWhole (S.left source.old) (S.left source.new) }
 
@@ -65,8 +66,8 @@ pub fn run_tool<R: Threads + Wait + Sync, F: Functions, G: Gate, S: Source, K: S
 
     // A document that is too long, is none, or asks for no valid plan is told so, unless a read fails or memory is short.
     ensures longer { ReadsDocument words.now → (bytes : List ℕ) → S.left source.old ≡ Some bytes → MAX_DOCUMENT_BYTES < length bytes → (result.status ≡ 8) ⊎ (result.status ≡ 6) ⊎ (result.status ≡ 9) }
-    ensures other { IsRun words.now → (bytes : List ℕ) → IsLeft (S.left source.old) bytes → ¬ IsDocument bytes → (result.status ≡ 3) ⊎ (result.status ≡ 6) ⊎ (result.status ≡ 9) }
-    ensures invalid { IsRun words.now → (plan : Plan) → IsPlanLeft (S.left source.old) plan → ¬ IsValid (F.told functions.now) plan → (result.status ≡ 4) ⊎ (result.status ≡ 6) ⊎ (result.status ≡ 9) }
+    ensures other { ReadsPlan words.now → (bytes : List ℕ) → IsLeft (S.left source.old) bytes → ¬ IsDocument bytes → (result.status ≡ 3) ⊎ (result.status ≡ 6) ⊎ (result.status ≡ 9) }
+    ensures invalid { ReadsPlan words.now → (plan : Plan) → IsPlanLeft (S.left source.old) plan → ¬ IsValid (F.told functions.now) plan → (result.status ≡ 4) ⊎ (result.status ≡ 6) ⊎ (result.status ≡ 9) }
 
     ensures other_text { IsText words.now → (bytes : List ℕ) → IsLeft (S.left source.old) bytes → ((plan : Plan) → ¬ IsTextPlan bytes plan) → (result.status ≡ 3) ⊎ (result.status ≡ 6) ⊎ (result.status ≡ 9) }
     ensures invalid_text { IsText words.now → (plan : Plan) → IsTextPlanLeft (S.left source.old) plan → ((each : Plan) → IsTextPlanLeft (S.left source.old) each → ¬ IsValid (F.told functions.now) each)
@@ -77,6 +78,10 @@ pub fn run_tool<R: Threads + Wait + Sync, F: Functions, G: Gate, S: Source, K: S
         → ¬ Rose (S.faults source.old) (S.faults source.new) → ¬ Rose (K.faults out.old) (K.faults out.new) → (result.status ≡ 0) ⊎ (result.status ≡ 9) }
 
     ensures complete_text { IsText words.now → (plan : Plan) → IsTextPlanLeft (S.left source.old) plan → ((each : Plan) → IsTextPlanLeft (S.left source.old) each → IsValid (F.told functions.now) each × NothingBreaks (F.told functions.now) each)
+        → ¬ Rose (S.faults source.old) (S.faults source.new) → ¬ Rose (K.faults out.old) (K.faults out.new) → (result.status ≡ 0) ⊎ (result.status ≡ 9) }
+
+    // A valid plan is explained, unless a read or a write fails or memory is short.
+    ensures complete_explain { IsExplain words.now → (plan : Plan) → IsPlanLeft (S.left source.old) plan → IsValid (F.told functions.now) plan
         → ¬ Rose (S.faults source.old) (S.faults source.new) → ¬ Rose (K.faults out.old) (K.faults out.new) → (result.status ≡ 0) ⊎ (result.status ≡ 9) }
 
     // Words that ask for no document leave the source as it is.
@@ -107,16 +112,16 @@ fn outcome_of<R: Threads + Wait + Sync, F: Functions, G: Gate, S: Source, K: Sin
         Some(Command::Help) => write_text(out, help().as_bytes()),
         Some(Command::Version) => write_text(out, version().as_bytes()),
         Some(Command::Run { options, serial }) => {
-            let wanted = Wanted::Plan;
-            run(
-                rt, alloc, wanted, &options, serial, words, source, out, functions, gate,
-            )
+            let wanted = Wanted::Plan { options, serial };
+            run(rt, alloc, wanted, words, source, out, functions, gate)
         }
         Some(Command::Text { options, serial }) => {
-            let wanted = Wanted::Query;
-            run(
-                rt, alloc, wanted, &options, serial, words, source, out, functions, gate,
-            )
+            let wanted = Wanted::Query { options, serial };
+            run(rt, alloc, wanted, words, source, out, functions, gate)
+        }
+        Some(Command::Explain) => {
+            let wanted = Wanted::Explanation;
+            run(rt, alloc, wanted, words, source, out, functions, gate)
         }
     }
 }
@@ -126,8 +131,6 @@ fn run<R: Threads + Wait + Sync, F: Functions, G: Gate, S: Source, K: Sink>(
     rt: &R,
     alloc: Global,
     wanted: Wanted,
-    options: &Options,
-    serial: bool,
     words: &[String],
     source: &mut S,
     out: &mut K,
@@ -141,7 +144,7 @@ fn run<R: Threads + Wait + Sync, F: Functions, G: Gate, S: Source, K: Sink>(
         Ok(bytes) => bytes,
         Err(error) => return unread(error),
     };
-    match answer(rt, alloc, bytes, wanted, options, serial, functions, gate) {
+    match answer(rt, alloc, bytes, wanted, functions, gate) {
         Ok(text) => write_text(out, text.as_slice()),
         Err(outcome) => outcome,
     }
@@ -176,7 +179,7 @@ fn write_text<K: Sink>(out: &mut K, text: &[u8]) -> Outcome
 fn help() -> &'static str
     ensures { result.now ≡ help_text }
 {
-    "plan_tool answers queries: a document of tables and a plan, or for `text` of tables, their names and a query, on standard input, the table as CSV on standard output.\n\nplan_tool run [--workers N] [--rows N] [--partitions N] [--seed N] [--serial]\nplan_tool text [--workers N] [--rows N] [--partitions N] [--seed N] [--serial]\nplan_tool --help\nplan_tool --version\n"
+    "plan_tool answers queries: a document of tables and a plan, or for `text` of tables, their names and a query, on standard input, the table as CSV on standard output, or for `explain` the physical plan.\n\nplan_tool run [--workers N] [--rows N] [--partitions N] [--seed N] [--serial]\nplan_tool text [--workers N] [--rows N] [--partitions N] [--seed N] [--serial]\nplan_tool explain [--workers N] [--rows N] [--partitions N] [--seed N] [--serial]\nplan_tool --help\nplan_tool --version\n"
 }
 
 /// The name and the version of the program.

@@ -9,9 +9,9 @@ use Rattle.std.proofs.lemmas.List.{get_or_default}
 use Rattle.tool_words.proofs.Giving.{same-rest}
 use Rattle.tool_words.proofs.OneMore.{none-left}
 use Rattle.tool_words.proofs.Reading.{begins}
-use Rattle.tool_words.specs.Words.{AreWords, Give, IsCommand, IsHelp, IsNamedCommand, IsRun, IsSetOrDefault, IsText, IsVersion, Number, Serial, Setting, flag_of, number_of, words_of}
+use Rattle.tool_words.specs.Words.{AreWords, Give, IsCommand, IsExplain, IsHelp, IsNamedCommand, IsRun, IsSetOrDefault, IsText, IsVersion, Number, Serial, Setting, flag_of, number_of, words_of}
 use Rattle.tool_words.specs.declared.command.Command.{Command}
-use Rattle.tool_words.specs.declared.command.Command.TheVariants.{Run, Text, Help, Version}
+use Rattle.tool_words.specs.declared.command.Command.TheVariants.{Run, Text, Explain, Help, Version}
 use Rattle.tool_words.specs.declared.settings.Kind.{Kind}
 use Rattle.tool_words.specs.declared.settings.Kind.TheVariants.{Workers, Rows, Partitions, Seed}
 
@@ -64,6 +64,18 @@ one-named make name words o p a b (s, f, give) (t, g, gives) =
 pub not-text : (words : List (String Global)) → IsRun words → ¬ IsText words
 not-text words (s, run) (t, text) = let f : codes "run" ∷ flat_map words_of s ≡ codes "text" ∷ flat_map words_of t = sym run.words_are ∙ text.words_are in cc
 
+pub not-explain : (words : List (String Global)) → IsRun words → ¬ IsExplain words
+not-explain words (s, run) (t, explain) = let f : codes "run" ∷ flat_map words_of s ≡ codes "explain" ∷ flat_map words_of t = sym run.words_are ∙ explain.words_are in cc
+
+pub text-not-explain : (words : List (String Global)) → IsText words → ¬ IsExplain words
+text-not-explain words (s, text) (t, explain) = let f : codes "text" ∷ flat_map words_of s ≡ codes "explain" ∷ flat_map words_of t = sym text.words_are ∙ explain.words_are in cc
+
+pub explain-not-help : (words : List (String Global)) → IsExplain words → ¬ IsHelp words
+explain-not-help words (settings, explain) h = let f : codes "explain" ∷ flat_map words_of settings ≡ codes "--help" ∷ [] = sym explain.words_are ∙ h in cc
+
+pub explain-not-version : (words : List (String Global)) → IsExplain words → ¬ IsVersion words
+explain-not-version words (settings, explain) v = let f : codes "explain" ∷ flat_map words_of settings ≡ codes "--version" ∷ [] = sym explain.words_are ∙ v in cc
+
 pub not-help : (words : List (String Global)) → IsRun words → ¬ IsHelp words
 not-help words (settings, run) h = let f : codes "run" ∷ flat_map words_of settings ≡ codes "--help" ∷ [] = sym run.words_are ∙ h in cc
 
@@ -83,10 +95,11 @@ help-not-version words h v = let f : codes "--help" ∷ [] ≡ codes "--version"
 
 -- words that are a command are words
 pub a-command : (words : List (String Global)) (c : Command) → IsCommand words c → AreWords words
-a-command words (Run o b) (s, f, give) = inl (s, f)
-a-command words (Text o b) (s, f, give) = inr (inl (s, f))
-a-command words Help h = inr (inr (inl h))
-a-command words Version v = inr (inr (inr v))
+a-command words (Run o b) (s, f, give) = inl (inl (inl (s, f)))
+a-command words (Text o b) (s, f, give) = inl (inr (s, f))
+a-command words Explain e = inl (inl (inr e))
+a-command words Help h = inr (inl h)
+a-command words Version v = inr (inr v)
 
 pub one-command : (words : List (String Global)) (c d : Command) → IsCommand words c → IsCommand words d → c ≡ d
 one-command words Help Help h g = refl
@@ -97,6 +110,15 @@ one-command words (Run o a) (Text p b) (s, f, give) (t, g, gives) = absurd (not-
 one-command words (Text p b) (Run o a) (t, g, gives) (s, f, give) = absurd (not-text words (s, f) (t, g))
 one-command words (Run o a) Help (s, f, give) g = absurd (not-help words (s, f) g)
 one-command words (Run o a) Version (s, f, give) g = absurd (not-version words (s, f) g)
+one-command words Explain Explain f g = refl
+one-command words Explain (Run o a) g (s, f, give) = absurd (not-explain words (s, f) g)
+one-command words (Run o a) Explain (s, f, give) g = absurd (not-explain words (s, f) g)
+one-command words Explain (Text o a) g (s, f, give) = absurd (text-not-explain words (s, f) g)
+one-command words (Text o a) Explain (s, f, give) g = absurd (text-not-explain words (s, f) g)
+one-command words Explain Help f g = absurd (explain-not-help words f g)
+one-command words Help Explain g f = absurd (explain-not-help words f g)
+one-command words Explain Version f g = absurd (explain-not-version words f g)
+one-command words Version Explain g f = absurd (explain-not-version words f g)
 one-command words Help (Run o a) g (s, f, give) = absurd (not-help words (s, f) g)
 one-command words Version (Run o a) g (s, f, give) = absurd (not-version words (s, f) g)
 one-command words (Text o a) Help (s, f, give) g = absurd (text-not-help words (s, f) g)
@@ -112,15 +134,25 @@ only_from words None some none c is = absurd (none (a-command words c is))
 only_from words (Some d) some none c is = ap (λ (x : Command). Some x) (one-command words d c some is)
 
 pub run_from : (words : List (String Global)) (r : Option Command) → IfSome r (λ c. IsCommand words c) → IfNone r (¬ AreWords words) → IsRun words → (options : Options) × (serial : Bool) × (r ≡ Some (Run options serial))
-run_from words None some none run = absurd (none (inl run))
+run_from words None some none run = absurd (none (inl (inl (inl run))))
 run_from words (Some (Run o b)) some none run = (o, b, refl)
 run_from words (Some (Text o b)) (s, f, give) none run = absurd (not-text words run (s, f))
+run_from words (Some Explain) some none run = absurd (not-explain words run some)
 run_from words (Some Help) some none run = absurd (not-help words run some)
 run_from words (Some Version) some none run = absurd (not-version words run some)
 
 pub text_from : (words : List (String Global)) (r : Option Command) → IfSome r (λ c. IsCommand words c) → IfNone r (¬ AreWords words) → IsText words → (options : Options) × (serial : Bool) × (r ≡ Some (Text options serial))
-text_from words None some none text = absurd (none (inr (inl text)))
+text_from words None some none text = absurd (none (inl (inr text)))
 text_from words (Some (Run o b)) (s, f, give) none text = absurd (not-text words (s, f) text)
 text_from words (Some (Text o b)) some none text = (o, b, refl)
+text_from words (Some Explain) some none text = absurd (text-not-explain words text some)
 text_from words (Some Help) some none text = absurd (text-not-help words text some)
 text_from words (Some Version) some none text = absurd (text-not-version words text some)
+
+pub explain_from : (words : List (String Global)) (r : Option Command) → IfSome r (λ c. IsCommand words c) → IfNone r (¬ AreWords words) → IsExplain words → r ≡ Some Explain
+explain_from words None some none explain = absurd (none (inl (inl (inr explain))))
+explain_from words (Some Explain) some none explain = refl
+explain_from words (Some (Run o b)) (s, f, give) none explain = absurd (not-explain words (s, f) explain)
+explain_from words (Some (Text o b)) (s, f, give) none explain = absurd (text-not-explain words (s, f) explain)
+explain_from words (Some Help) some none explain = absurd (explain-not-help words explain some)
+explain_from words (Some Version) some none explain = absurd (explain-not-version words explain some)

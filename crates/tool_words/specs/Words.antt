@@ -6,7 +6,7 @@ use Rattle.std.specs.Str.Parse.{digits_value}
 use Rattle.std.specs.declared.alloc.Global.{Global}
 use Rattle.ps_options.specs.declared.options.Options.{Options}
 use Rattle.tool_words.specs.declared.command.Command.{Command}
-use Rattle.tool_words.specs.declared.command.Command.TheVariants.{Run, Text, Help, Version}
+use Rattle.tool_words.specs.declared.command.Command.TheVariants.{Run, Text, Explain, Help, Version}
 use Rattle.tool_words.specs.declared.settings.Kind.{Kind}
 use Rattle.tool_words.specs.declared.settings.Kind.TheVariants.{Workers, Rows, Partitions, Seed}
 
@@ -74,16 +74,27 @@ pub record IsNamedWith (name : List ℕ) (words : List (String Global)) (setting
 abbrev pub IsNamed : List ℕ → List (String Global) → Type 0
 IsNamed name words = (settings : List Setting) × IsNamedWith name words settings
 
--- the words are a command `run`, and a command `text`
+-- the words are a command `run`, a command `text`, and a command `explain`
 abbrev pub IsRun : List (String Global) → Type 0
 IsRun words = IsNamed (codes "run") words
 
 abbrev pub IsText : List (String Global) → Type 0
 IsText words = IsNamed (codes "text") words
 
--- the words are a command that reads a document
+abbrev pub IsExplain : List (String Global) → Type 0
+IsExplain words = IsNamed (codes "explain") words
+
+-- the words are a command that reads a document of a plan
+abbrev pub ReadsPlan : List (String Global) → Type 0
+ReadsPlan words = IsRun words ⊎ IsExplain words
+
+-- the words are a command that reads a document, of a plan or of a query
 abbrev pub ReadsDocument : List (String Global) → Type 0
-ReadsDocument words = IsRun words ⊎ IsText words
+ReadsDocument words = ReadsPlan words ⊎ IsText words
+
+-- the words are a command that answers by a table
+abbrev pub AsksTable : List (String Global) → Type 0
+AsksTable words = IsRun words ⊎ IsText words
 
 -- the words are `--help` or `--version`, alone
 abbrev pub IsHelp : List (String Global) → Type 0
@@ -94,7 +105,7 @@ IsVersion words = map string_bytes words ≡ codes "--version" ∷ []
 
 -- the words are a command
 abbrev pub AreWords : List (String Global) → Type 0
-AreWords words = IsRun words ⊎ IsText words ⊎ IsHelp words ⊎ IsVersion words
+AreWords words = ReadsDocument words ⊎ IsHelp words ⊎ IsVersion words
 
 -- the words are that name and some settings, which give these options
 abbrev pub IsNamedCommand : List ℕ → List (String Global) → Options → Bool → Type 0
@@ -104,5 +115,6 @@ IsNamedCommand name words options serial = (settings : List Setting) × IsNamedW
 abbrev pub IsCommand : List (String Global) → Command → Type 0
 IsCommand words (Run options serial) = IsNamedCommand (codes "run") words options serial
 IsCommand words (Text options serial) = IsNamedCommand (codes "text") words options serial
+IsCommand words Explain = IsExplain words
 IsCommand words Help = IsHelp words
 IsCommand words Version = IsVersion words

@@ -3,7 +3,7 @@ ghost use Rattle.std.specs.Prelude.{◌≡◌, ◌∷◌, Bool, ℕ, List, Strin
 ghost use Rattle.std.specs.declared.alloc.Global.{Global};
 ghost use Rattle.ps_options.specs.declared.options.Options.{Options};
 ghost use Rattle.tool_words.specs.declared.command.Command.{Command};
-ghost use Rattle.tool_words.specs.Words.{AreWords, IsCommand, IsNamed, IsNamedCommand, IsRun, IsText};
+ghost use Rattle.tool_words.specs.Words.{AreWords, IsCommand, IsExplain, IsNamed, IsNamedCommand, IsRun, IsText};
 
 use crate::settings::{Told, read_settings};
 use ps_options::options::Options;
@@ -25,6 +25,8 @@ pub enum Command {
         /// Whether it is run without workers.
         serial: bool,
     },
+    /// To tell the physical plan of a document's plan. The settings are read, and nothing is run by them.
+    Explain,
     /// To tell how the program is used.
     Help,
     /// To tell its version.
@@ -33,15 +35,16 @@ pub enum Command {
 
 /// The command that the words are, the program's own name left out; none where they are no command.
 ///
-/// A command is `run` or `text` and then any of `--workers N`, `--rows N`, `--partitions N`, `--seed N` and `--serial`, each
-/// at most once and in any order, or `--help` alone, or `--version` alone. N is a word of 1 to 20 decimal digits whose number
+/// A command is `run`, `text` or `explain` and then any of `--workers N`, `--rows N`, `--partitions N`, `--seed N` and
+/// `--serial`, each at most once and in any order, or `--help` alone, or `--version` alone. N is a word of 1 to 20 decimal digits whose number
 /// is 1 to 256, 1 to 2^20, 1 to 1024, and one of 64 bits. Where they are not set, they are 4, 100000, 16 and 0.
-#[tactic(auto, using(crate::proofs::OneCommand::only_from, crate::proofs::OneCommand::run_from, crate::proofs::OneCommand::text_from))]
+#[tactic(auto, using(crate::proofs::OneCommand::only_from, crate::proofs::OneCommand::run_from, crate::proofs::OneCommand::text_from, crate::proofs::OneCommand::explain_from))]
 pub fn command_of(words: &[String]) -> Option<Command>
     ensures some { IfSome result (λ c. IsCommand words.now c) }
     ensures only { (c : Command) → IsCommand words.now c → result ≡ Some c }
     ensures run { IsRun words.now → (options : Options) × (serial : Bool) × (result ≡ Some (Command.Run options serial)) }
     ensures text { IsText words.now → (options : Options) × (serial : Bool) × (result ≡ Some (Command.Text options serial)) }
+    ensures explain { IsExplain words.now → result ≡ Some Command.Explain }
     ensures none { IfNone result (¬ AreWords words.now) }
 {
     let (command, rest) = words.split_first()?;
@@ -53,6 +56,11 @@ pub fn command_of(words: &[String]) -> Option<Command>
         "text" => {
             let (options, serial) = options_of(rest)?;
             Some(Command::Text { options, serial })
+        }
+        "explain" => {
+            // They have to be settings; none of them changes a plan.
+            let _settings = options_of(rest)?;
+            Some(Command::Explain)
         }
         "--help" if rest.is_empty() => Some(Command::Help),
         "--version" if rest.is_empty() => Some(Command::Version),

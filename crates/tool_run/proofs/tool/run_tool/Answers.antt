@@ -1,5 +1,5 @@
 use Rattle.std.proofs.Common.{◌≡◌, ◌⊎◌, ◌∙◌, sym, subst}
-use Rattle.tool_run.proofs.Runs.{end-complete, end-complete_text, end-invalid, end-invalid_text, end-line, end-longer, end-other, end-other_text, end-reads, end-says, end-silent, end-unknown}
+use Rattle.tool_run.proofs.Runs.{end-complete, end-complete_text, end-explained, end-invalid, end-invalid_text, end-line, end-longer, end-other, end-other_text, end-reads, end-says, end-silent, end-unknown}
 use Rattle.tool_run.proofs.tool.run_tool.Goals as goal
 
 pub returns-clause-answered : goal.returns-clause-answered
@@ -45,6 +45,9 @@ returns-clause-invalid g c = λ run plan given bad. subst (λ n. (n ≡ 4) ⊎ (
 
 pub returns-clause-complete : goal.returns-clause-complete
 returns-clause-complete g c = λ run plan given valid nothing reads writes. subst (λ n. (n ≡ 0) ⊎ (n ≡ 9)) (sym c.status.ensures) (end-complete _ _ _ run plan given valid nothing reads writes c.outcome_of-outcome.result c.outcome_of-outcome.ensures.end)
+
+pub returns-clause-complete_explain : goal.returns-clause-complete_explain
+returns-clause-complete_explain g c = λ explain plan given valid reads writes. subst (λ n. (n ≡ 0) ⊎ (n ≡ 9)) (sym c.status.ensures) (end-explained _ _ _ explain plan given valid reads writes c.outcome_of-outcome.result c.outcome_of-outcome.ensures.end)
 
 pub returns-clause-other_text : goal.returns-clause-other_text
 returns-clause-other_text g c = λ text bytes is none. subst (λ n. (n ≡ 3) ⊎ (n ≡ 6) ⊎ (n ≡ 9)) (sym c.status.ensures) (end-other_text _ _ _ text bytes is none c.outcome_of-outcome.result c.outcome_of-outcome.ensures.end)

@@ -13,3 +13,8 @@ returns-in_ok-options-in-text-clause-only c = only_from c.args.words.now _ (c.in
 
 pub returns-in_ok-options-in-text-clause-text : goal.returns-in_ok-options-in-text-clause-text
 returns-in_ok-options-in-text-clause-text c = text_from c.args.words.now _ (c.in_ok-options-in-text.ensures.some (codes "text") c.args.words.now (search rules)) tt
+
+pub returns-in_ok-_settings-in-explain-clause-some : goal.returns-in_ok-_settings-in-explain-clause-some
+returns-in_ok-_settings-in-explain-clause-some c =
+    let f = c.in_ok-_settings-in-explain.ensures.some (codes "explain") c.args.words.now (search rules) in
+    (f.0, f.1)

@@ -1,0 +1,4 @@
+// Plans that are asked for, and not run.
+#![tactic(auto)]
+
+pub mod query;
