@@ -1,0 +1,7 @@
+//! All pipes of a run, by the keys that nodes have of them.
+#![tactic(auto)]
+
+pub mod pipes;
+mod places;
+
+pub use pipes::Pipes;

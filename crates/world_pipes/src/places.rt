@@ -1,0 +1,34 @@
+//! Changes of single pipes.
+ghost use Rattle.std.specs.Prelude.{◌≡◌};
+ghost use Rattle.ps_world.specs.Pipes.{dropped_pipe};
+ghost use Rattle.world_pipes.specs.Changed.{Becomes, if_in_phase};
+ghost use Rattle.world_pipes.specs.Shown.{closed_pipe};
+
+use keyed_slots::Key;
+use ps_graph::key::LogicalPipeKey;
+use ps_pipes::Pipe;
+
+/// The place of the pipe with a key.
+pub(crate) fn place(key: LogicalPipeKey) -> usize
+    ensures { result ≡ key.0 }
+{
+    key.number() as usize
+}
+
+/// Closes a pipe that is in the phase.
+pub(crate) fn close(pipe: &mut Pipe)
+    ensures { Becomes (if_in_phase closed_pipe) pipe.old pipe.new }
+{
+    if pipe.in_phase() {
+        pipe.close();
+    }
+}
+
+/// Drops a pipe that is in the phase.
+pub(crate) fn lose(pipe: &mut Pipe)
+    ensures { Becomes (if_in_phase dropped_pipe) pipe.old pipe.new }
+{
+    if pipe.in_phase() {
+        pipe.lose();
+    }
+}
