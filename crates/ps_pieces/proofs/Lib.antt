@@ -1,0 +1,8 @@
+mod ShortColumns
+mod Complete
+mod Faults
+mod Numbers
+pub mod Fitting
+mod Results
+mod Answering
+mod Cutting
