@@ -4,6 +4,8 @@
 #[cfg(test)]
 mod fixtures;
 #[cfg(test)]
+mod multiplexers;
+#[cfg(test)]
 mod passing;
 #[cfg(test)]
 mod script;

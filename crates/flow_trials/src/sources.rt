@@ -1,8 +1,9 @@
-// Sources: what they answer to each state of their output.
-use crate::fixtures::{options, table};
+// Sources and sinks: what they answer to each state of their one port.
+use crate::fixtures::{options, schema, table};
 use crate::script::hold;
 use ps_nodes::flow::FlowNode;
 use ps_nodes::sequence::MorselSeq;
+use ps_nodes::sink::InMemorySinkNode;
 use ps_nodes::source::InMemorySourceNode;
 use std::alloc::Global;
 use std::test::Fail;
@@ -59,4 +60,11 @@ fn a_source_is_ready_until_it_gave_all(rt: HostRuntime) -> Result<(), Fail> {
         holds_of_source(alloc, rows, cut, claims, states)?;
     }
     Ok(())
+}
+
+#[test]
+fn a_sink_takes_until_its_input_is_done(rt: HostRuntime) -> Result<(), Fail> {
+    let alloc = rt.alloc();
+    let mut node = FlowNode::InMemorySink(InMemorySinkNode::new(schema(alloc)?));
+    hold(alloc, &mut node, 1, 0, "B/ -> R/\nR/ -> R/\nD/ -> D/")
 }
