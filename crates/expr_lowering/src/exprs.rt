@@ -21,9 +21,9 @@ use ps_frame::refusal::{PolarsError, PolarsResult};
 use ps_fresh::lowering::Lowering;
 use ps_meaning::options::ExprIR;
 use ps_phys::phys::PhysStream;
-use ps_validate::fields::name_of;
 use pu_base::{Arena, Node, PlSmallStr};
 use std::alloc::Global;
+use valid_plans::fields::name_of;
 
 /// A stream, and expressions over it that stand for these over the input; they are elementwise, under the asked names.
 ///

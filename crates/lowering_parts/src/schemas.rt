@@ -15,11 +15,11 @@ use ps_frame::refusal::{PolarsError, PolarsResult};
 use ps_frame::schema::Schema;
 use ps_frame::value::DataType;
 use ps_meaning::options::ExprIR;
-use ps_validate::fields::push_typed;
 use pu_base::{Arena, Node, PlSmallStr, Steps};
 use std::alloc::Global;
 use std::marker::Brand;
 use std::sync::ledger::{Blank, Ledger};
+use valid_plans::fields::push_typed;
 
 /// The schema of named expressions over another one.
 ///

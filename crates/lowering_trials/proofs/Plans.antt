@@ -15,7 +15,7 @@ use Rattle.ps_plan.specs.Plans.{IsPlan, node_tree, plan_at}
 use Rattle.ps_plan.specs.declared.ir.IR.{IR}
 use Rattle.ps_plan.specs.declared.ir.IR.TheVariants as entry
 use Rattle.ps_plan.proofs.ValidPlans.{reached-complete}
-use Rattle.ps_validate.specs.Valid.{IsValidWith, ValidNodes, plan_with}
+use Rattle.valid_plans.specs.Valid.{IsValidWith, ValidNodes, plan_with}
 
 pub root_is_plan : (v : ValidNodes) (exprs : List AExpr) → ((F : Functions) × IsValidWith F v exprs) → IsPlan v.nodes exprs v.root
 root_is_plan v exprs (F, h) = reached-complete F (plan_with v exprs) h.valid v.root.0 here

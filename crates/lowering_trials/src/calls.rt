@@ -5,7 +5,7 @@ ghost use Rattle.ps_frame.specs.Functions.{Functions};
 ghost use Rattle.ps_frame.specs.Trees.{IsComplete, tree_at};
 ghost use Rattle.ps_fresh.specs.Known.{Remembers};
 ghost use Rattle.ps_meaning.specs.Steps.{key_trees};
-ghost use Rattle.ps_validate.specs.Valid.{IsValidWith};
+ghost use Rattle.valid_plans.specs.Valid.{IsValidWith};
 
 use crate::documents::{below_sink, document, select_of, spelled, table_of, valid_plan};
 use crate::written::{push_named, told};
@@ -20,10 +20,10 @@ use ps_fresh::lowering::Lowering;
 use ps_fresh::name_source::NameSource;
 use ps_meaning::options::ExprIR;
 use ps_phys::phys::{PhysNodeKind, PhysStream};
-use ps_validate::validate::Valid;
 use pu_base::{Arena, Node};
 use std::alloc::Global;
 use std::test::Fail;
+use valid_plans::valid::Valid;
 
 // A lowering that has made nothing yet.
 fn begun(alloc: Global, valid: &Valid, exprs: &Arena<AExpr>) -> Result<Lowering, Fail>

@@ -5,7 +5,7 @@ ghost use Rattle.ps_frame.specs.Functions.{Functions};
 ghost use Rattle.ps_frame.specs.Trees.{IsComplete, tree_at};
 ghost use Rattle.ps_meaning.specs.Steps.{key_trees};
 ghost use Rattle.ps_plan.specs.Plans.{IsPlan};
-ghost use Rattle.ps_validate.specs.Valid.{IsValidWith};
+ghost use Rattle.valid_plans.specs.Valid.{IsValidWith};
 
 use crate::functions::Same;
 use ps_document::document::{Document, read_document};
@@ -14,12 +14,13 @@ use ps_frame::frame::DataFrame;
 use ps_meaning::options::ExprIR;
 use ps_plan::ir::IR;
 use ps_plan::walk::entry;
-use ps_validate::validate::{Valid, validate};
+use ps_validate::validate::validate;
 use pu_base::{Arena, Node, Steps};
 use std::alloc::Global;
 use std::marker::Brand;
 use std::sync::ledger::{Blank, Ledger};
 use std::test::Fail;
+use valid_plans::valid::Valid;
 
 // The text with `__POLARS_STMP_` for each `@`.
 pub fn spelled(alloc: Global, text: &str) -> Result<String, Fail> {

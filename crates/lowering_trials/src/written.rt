@@ -9,10 +9,10 @@ use ps_meaning::map::MapKind;
 use ps_meaning::options::ExprIR;
 use ps_phys::phys::{PhysNode, PhysNodeKey, PhysNodeKind, PhysStream};
 use ps_phys::text::plan_text;
-use ps_validate::fields::name_of;
 use pu_base::{Arena, Node, PlSmallStr};
 use std::alloc::Global;
 use std::test::Fail;
+use valid_plans::fields::name_of;
 
 type Nodes = SlotMap<PhysNodeKey, PhysNode>;
 

@@ -1,6 +1,6 @@
 // Nodes that are timed, over whole tables.
 ghost use Rattle.std.specs.Prelude.{◌≡◌, ◌<◌};
-ghost use Rattle.ps_validate.specs.Valid.{IsValidWith};
+ghost use Rattle.valid_plans.specs.Valid.{IsValidWith};
 
 use crate::table::{Summary, keyed, make, summarize};
 use anyhow::{Result, bail};
@@ -12,11 +12,12 @@ use ps_frame::frame::DataFrame;
 use ps_frame::functions::Functions;
 use ps_frame::refusal::PolarsResult;
 use ps_plan::ir::IR;
-use ps_validate::validate::{Valid, validate};
+use ps_validate::validate::validate;
 use pu_base::{Arena, Node, Steps};
 use std::alloc::Global;
 use std::marker::Brand;
 use std::sync::ledger::{Blank, Ledger};
+use valid_plans::valid::Valid;
 
 // The tables of a document, without rows: the rows come once it is read.
 const TABLES: &str =

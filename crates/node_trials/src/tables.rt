@@ -2,7 +2,7 @@
 ghost use Rattle.std.specs.Prelude.{◌≡◌, IfOk};
 ghost use Rattle.ps_plan.specs.Graph.{Reached};
 ghost use Rattle.ps_plan.specs.Entries.{entry_inputs};
-ghost use Rattle.ps_validate.specs.Valid.{IsValidWith, plan_with};
+ghost use Rattle.valid_plans.specs.Valid.{IsValidWith, plan_with};
 ghost use Rattle.ps_walks.specs.Fit.{plan_schemas};
 
 use ps_frame::expr::AExpr;
@@ -11,9 +11,9 @@ use ps_frame::functions::Functions;
 use ps_frame::refusal::{PolarsError, PolarsResult, Why};
 use ps_node_eval::node::evaluate_node;
 use ps_plan::ir::IR;
-use ps_validate::validate::Valid;
 use pu_base::{Arena, Node};
 use std::alloc::{AllocError, Global};
+use valid_plans::valid::Valid;
 
 // The nodes that an entry names, in order.
 fn input_nodes(alloc: Global, entry: &IR) -> Result<Vec<Node>, AllocError>

@@ -9,7 +9,8 @@ ghost use Rattle.ps_frame.specs.Trees.{Tree, tree_at};
 ghost use Rattle.ps_phys.specs.Shown.{ReadsWhatIsThere, nodes_of, shown};
 ghost use Rattle.ps_plan.specs.Refusals.{IsValid};
 ghost use Rattle.ps_survey.specs.Flaws.{plan_of};
-ghost use Rattle.ps_validate.specs.Valid.{IsPlanError, IsValidWith};
+ghost use Rattle.ps_validate.specs.Errors.{IsPlanError};
+ghost use Rattle.valid_plans.specs.Valid.{IsValidWith};
 ghost use Rattle.pu_base.specs.declared.arena.Node.{Node as ANode};
 
 use keyed_slots::SlotMap;
@@ -19,11 +20,12 @@ use ps_frame::functions::Functions;
 use ps_frame::refusal::PolarsResult;
 use ps_phys::phys::{PhysNode, PhysNodeKey};
 use ps_plan::ir::IR;
-use ps_validate::validate::{Valid, validate};
+use ps_validate::validate::validate;
 use pu_base::{Arena, Node, Steps};
 use std::alloc::Global;
 use std::marker::Brand;
 use std::sync::ledger::{Blank, Ledger};
+use valid_plans::valid::Valid;
 
 /// The physical nodes of a plan and the key of their root, if the plan is valid: the nodes that the root reaches are those
 /// that the rules of lowering give, and no stream has two readers among them. No function is called; each is asked

@@ -1,19 +1,20 @@
 // The names that are given beside those of a plan.
 ghost use Rattle.std.specs.Prelude.{◌≡◌, ◌<◌, IfOk};
 ghost use Rattle.ps_frame.specs.Functions.{Functions};
-ghost use Rattle.ps_validate.specs.Valid.{IsValidWith};
+ghost use Rattle.valid_plans.specs.Valid.{IsValidWith};
 
 use crate::functions::Same;
 use ps_document::document::{Document, read_document};
 use ps_frame::expr::AExpr;
 use ps_fresh::name_source::{NameSource, unique_column_name};
 use ps_plan::ir::IR;
-use ps_validate::validate::{Valid, validate};
+use ps_validate::validate::validate;
 use pu_base::{Arena, Node, Steps};
 use std::alloc::Global;
 use std::marker::Brand;
 use std::sync::ledger::{Blank, Ledger};
 use std::test::Fail;
+use valid_plans::valid::Valid;
 
 fn valid_plan<L: Ledger>(
     blank: Blank,

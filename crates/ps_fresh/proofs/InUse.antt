@@ -7,37 +7,18 @@ use Rattle.std.specs.Str.{bytes_eq}
 use Rattle.std.proofs.lemmas.Bool.{or_cases, or_left, or_right}
 use Rattle.std.proofs.lemmas.List.Folds.{list_any-append}
 use Rattle.std.proofs.lemmas.List.Elements.{Contains-append_right, Contains-get_or}
-use Rattle.pu_base.specs.declared.arena.Node.{Node}
 use Rattle.ps_frame.specs.Functions.{Functions}
 use Rattle.ps_frame.specs.declared.expr.AExpr.{AExpr}
-use Rattle.ps_frame.specs.declared.refusal.PolarsError.{PolarsError}
-use Rattle.ps_frame.specs.declared.refusal.PolarsError.TheVariants as error
-use Rattle.ps_frame.specs.declared.refusal.Why.{Why}
-use Rattle.ps_meaning.specs.Errors.{refusal_error}
 use Rattle.ps_meaning.specs.Schemas.{is_among, names_of, tree_schema}
-use Rattle.ps_meaning.specs.StepRefusals.{invalid_plan}
 use Rattle.ps_meaning.specs.Steps.{Name}
 use Rattle.ps_plan.specs.Graph.{Reached, here}
 use Rattle.ps_plan.specs.Plans.{tree_of}
-use Rattle.ps_plan.specs.Refusals.{IsRefused}
-use Rattle.ps_plan.specs.declared.ir.IR.{IR}
 use Rattle.ps_rules.specs.Names.{Knows, is_taken, temporary}
-use Rattle.ps_survey.specs.Flaws.{plan_of}
-use Rattle.ps_survey.specs.Surveys.{IsSurvey}
-use Rattle.ps_validate.specs.Known.{IsKnown}
-use Rattle.ps_validate.specs.Valid.{IsValidWith, ValidNodes, plan_with}
+use Rattle.valid_plans.specs.Surveys.{IsSurvey}
+use Rattle.valid_plans.specs.Known.{IsKnown}
+use Rattle.valid_plans.specs.Valid.{IsValidWith, ValidNodes, plan_with}
 use Rattle.ps_fresh.specs.Collected.{AreNumbersOf}
 use Rattle.ps_fresh.specs.InPlans.{IsNameUnder, all_known_names, known_names, names_at, scanned_names}
-
--- the plan of a root, an arena of nodes and one of expressions is the valid one where they are its
-pub plan_named : (v : ValidNodes) (root : Node) (nodes : List IR) (exprs : List AExpr) → root ≡ v.root → nodes ≡ v.nodes → plan_of root nodes exprs ≡ plan_with v exprs
-plan_named v root nodes exprs r n = λ i. record { nodes = n i; exprs = exprs; root = r i }
-
--- a valid plan has no flaw
-pub no_refusal : (F : Functions) (v : ValidNodes) (root : Node) (nodes : List IR) (exprs : List AExpr) (x : PolarsError) → root ≡ v.root → nodes ≡ v.nodes → IsValidWith F v exprs
-    → (x ≡ error.OutOfMemory) ⊎ ((n : ℕ) × (w : Why) × (x ≡ refusal_error n (invalid_plan w)) × ((F : Functions) → IsRefused F (plan_of root nodes exprs) n (invalid_plan w))) → x ≡ error.OutOfMemory
-no_refusal F v root nodes exprs x r ns valid (inl m) = m
-no_refusal F v root nodes exprs x r ns valid (inr h) = absurd (valid.valid h.0 (invalid_plan h.1) (subst (λ p. IsRefused F p h.0 (invalid_plan h.1)) (plan_named v root nodes exprs r ns) (h.3 F)))
 
 -- a name at some node of the order, and back
 among_some : (f : ℕ → List Name) (name : Name) (order : List ℕ) → is_among name (flat_map f order) ≡ true → (n : ℕ) × Contains order n × (is_among name (f n) ≡ true)

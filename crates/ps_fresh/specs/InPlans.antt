@@ -7,8 +7,8 @@ use Rattle.ps_plan.specs.Graph.{Reached}
 use Rattle.ps_plan.specs.Plans.{Plan, tree_of}
 use Rattle.ps_plan.specs.declared.ir.IR.{IR}
 use Rattle.ps_plan.specs.declared.ir.IR.TheVariants as entry
-use Rattle.ps_validate.specs.Known.{schema_in}
-use Rattle.ps_validate.specs.Valid.{ValidNodes}
+use Rattle.valid_plans.specs.Known.{schema_in}
+use Rattle.valid_plans.specs.Valid.{ValidNodes}
 
 -- the columns of the table that a node scans, which its projection may leave out
 abbrev pub scanned_names : Option IR → List Name

@@ -3,20 +3,18 @@ ghost use Rattle.std.specs.Prelude.{◌≡◌, ◌+◌, ◌<◌, ◌≤◌, ◌^
 ghost use Rattle.ps_frame.specs.Functions.{Functions};
 ghost use Rattle.ps_frame.specs.declared.refusal.PolarsError.{PolarsError};
 ghost use Rattle.ps_rules.specs.Names.{IsKnown, Knows, after_fresh, fresh_name, fresh_number};
-ghost use Rattle.ps_validate.specs.Valid.{IsValidWith, plan_with};
+ghost use Rattle.valid_plans.specs.Valid.{IsValidWith, plan_with};
 ghost use Rattle.ps_fresh.specs.InPlans.{IsNameUnder};
 
 use crate::names_in_use::numbers_in_use;
 use crate::temporary::temporary_name;
 use ps_frame::expr::AExpr;
 use ps_frame::refusal::{PolarsError, PolarsResult};
-use ps_survey::survey::survey_plan;
-use ps_validate::validate::Valid;
-use pu_base::{Arena, PlSmallStr, Steps};
+use pu_base::{Arena, PlSmallStr};
 use std::alloc::Global;
 use std::collections::BTreeSet;
-use std::marker::{Brand, Model};
-use std::sync::ledger::{Blank, Ledger};
+use std::marker::Model;
+use valid_plans::valid::Valid;
 
 /// The numbers whose names are in use, and the number from which the next fresh one is looked for.
 #[derive(Drop)]
@@ -43,7 +41,10 @@ impl NameSource {
         ensures first { IfOk result (λ names. names.next ≡ 0) }
         ensures memory { OnErr result (result ≡ Err PolarsError.OutOfMemory) }
     {
-        surveyed::<Brand>(alloc, Blank::new(1), valid, exprs)
+        // The clauses alone read the expressions.
+        let _exprs = exprs;
+        let taken = numbers_in_use(alloc, valid, valid.order())?;
+        Ok(NameSource { taken, next: 0 })
     }
 
     /// The number from which the next fresh one is looked for; it is one of 64 bits.
@@ -66,32 +67,6 @@ impl NameSource {
             }
         }
         None
-    }
-}
-
-// The names under the root, found on a survey of the nodes that it leads to.
-fn surveyed<L: Ledger>(
-    alloc: Global,
-    blank: Blank,
-    valid: &Valid,
-    exprs: &Arena<AExpr>,
-) -> PolarsResult<NameSource>
-    requires name { blank.name ≡ L.name }
-    requires parts { blank.parts ≡ L.parts }
-    requires some { 0 < L.parts }
-    requires valid { (F : Functions) × IsValidWith F valid.now exprs.now.items }
-    ensures names { IfOk result (λ names. (F : Functions) → IsValidWith F valid.now exprs.now.items → Knows names (IsNameUnder F (plan_with valid.now exprs.now.items))) }
-    ensures first { IfOk result (λ names. names.next ≡ 0) }
-    ensures memory { OnErr result (result ≡ Err PolarsError.OutOfMemory) }
-{
-    let mut steps = Steps::<L>::new(blank);
-    // A match and no `?`, so the clause of the error is handed on as it stands: it is no refusal, since the plan is valid.
-    match survey_plan(alloc, valid.root(), valid.ir(), exprs, &mut steps) {
-        Ok(survey) => {
-            let taken = numbers_in_use(alloc, valid, survey.order())?;
-            Ok(NameSource { taken, next: 0 })
-        }
-        Err(error) => Err(error),
     }
 }
 

@@ -4,17 +4,17 @@ ghost use Rattle.std.specs.List.{All};
 ghost use Rattle.std.specs.List.Sorted.{IsStrictlyIncreasing};
 ghost use Rattle.ps_frame.specs.declared.refusal.PolarsError.{PolarsError};
 ghost use Rattle.ps_meaning.specs.Steps.{Name};
-ghost use Rattle.ps_validate.specs.Known.{IsKnown};
+ghost use Rattle.valid_plans.specs.Known.{IsKnown};
 ghost use Rattle.ps_fresh.specs.Collected.{AreNumbersOf};
 ghost use Rattle.ps_fresh.specs.InPlans.{all_known_names, known_names};
 
 use crate::temporary::add_names;
 use ps_frame::refusal::PolarsResult;
 use ps_plan::ir::IR;
-use ps_validate::validate::Valid;
 use pu_base::Node;
 use std::alloc::Global;
 use std::collections::BTreeSet;
+use valid_plans::valid::Valid;
 
 /// Adds those of a node: of its columns, and of the table that it scans.
 ///

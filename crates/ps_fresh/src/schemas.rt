@@ -12,11 +12,11 @@ use ps_frame::expr::AExpr;
 use ps_frame::refusal::{PolarsError, PolarsResult};
 use ps_frame::schema::Schema;
 use ps_meaning::options::ExprIR;
-use ps_validate::fields::push_typed;
 use pu_base::{Arena, Node, Steps};
 use std::alloc::Global;
 use std::marker::Brand;
 use std::sync::ledger::{Blank, Ledger};
+use valid_plans::fields::push_typed;
 
 /// The schema of expressions under their output names, which differ, over an input's schema, where each of them has a kind.
 ///

@@ -1,7 +1,7 @@
 //! The computation of a node of a valid plan.
 ghost use Rattle.std.specs.Prelude.{◌≡◌, IfErr, IfOk};
 ghost use Rattle.ps_plan.specs.Graph.{Reached};
-ghost use Rattle.ps_validate.specs.Valid.{IsValidWith, plan_with};
+ghost use Rattle.valid_plans.specs.Valid.{IsValidWith, plan_with};
 ghost use Rattle.ps_walks.specs.Fit.{plan_schemas};
 ghost use Rattle.ps_node_eval.specs.Nodes.{FitInputs, NodeFaults, NodeGives};
 
@@ -10,9 +10,9 @@ use ps_frame::expr::AExpr;
 use ps_frame::frame::DataFrame;
 use ps_frame::functions::Functions;
 use ps_frame::refusal::PolarsResult;
-use ps_validate::validate::Valid;
 use pu_base::{Arena, Node};
 use std::alloc::Global;
+use valid_plans::valid::Valid;
 
 /// The table of a node that the root of a valid plan leads to, over the tables of its inputs: one for each in order,
 /// under the schema of that input. The plan is valid with these expressions and functions. The table has the schema

@@ -10,9 +10,9 @@ use ps_frame::refusal::{PolarsError, PolarsResult};
 use ps_frame::schema::Schema;
 use ps_meaning::options::ExprIR;
 use ps_typing::kinds::expr_kind;
-use ps_validate::fields::name_of;
 use pu_base::{Arena, Node};
 use std::alloc::Global;
+use valid_plans::fields::name_of;
 
 // Adds the fields of named expressions over an input to a schema. Where each has a kind and their names differ, memory
 // alone can be wanting; the schema is then filled in part.

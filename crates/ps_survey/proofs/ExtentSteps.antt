@@ -6,7 +6,7 @@ use Rattle.std.proofs.lemmas.List.Elements.{Contains-push_cases}
 use Rattle.std.proofs.lemmas.List.Sums.{sum_by_push}
 use Rattle.std.proofs.lemmas.Option.{slice_get-get_or, slice_get_within}
 use Rattle.ps_survey.specs.Extents.{HasExtent, IsExtent, largest}
-use Rattle.ps_survey.specs.Search.{NamedFirst}
+use Rattle.valid_plans.specs.Surveys.{NamedFirst}
 use Rattle.ps_survey.specs.declared.extents.Extent.{Extent}
 use Rattle.ps_survey.proofs.Lists.{from-at, same-or-not, slice_get-set_other, slice_get-set_same}
 use Rattle.ps_survey.proofs.Visits.{take-push}

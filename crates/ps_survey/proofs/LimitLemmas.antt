@@ -10,7 +10,8 @@ use Rattle.ps_meaning.specs.PlanTrees.{depth, occurrences}
 use Rattle.ps_plan.specs.Plans.{Plan, tree_of}
 use Rattle.ps_plan.specs.declared.ir.IR.{IR}
 use Rattle.ps_survey.specs.Counts.{looks_at}
-use Rattle.ps_survey.specs.Extents.{IsExtent, IsWithinLimits}
+use Rattle.ps_survey.specs.Extents.{IsExtent}
+use Rattle.valid_plans.specs.Surveys.{IsWithinLimits}
 use Rattle.ps_survey.specs.Flaws.{Flaw, IsFlawOrMemory, flawed, too_deep, too_large}
 use Rattle.ps_survey.specs.Orders.{all_in, exprs_in, inputs_in}
 use Rattle.ps_survey.specs.declared.extents.Extent.{Extent}

@@ -4,7 +4,7 @@ use Rattle.std.specs.Prelude.{Some, None, Contains}
 use Rattle.std.proofs.lemmas.List.{get_or_append_left, take-append-le}
 use Rattle.std.proofs.lemmas.List.Quantifiers.{all_pairs_push}
 use Rattle.std.proofs.lemmas.Option.{slice_get_within, slice_get-get_or, get_or_from_slice_get}
-use Rattle.ps_survey.specs.Search.{NamedFirst, Once}
+use Rattle.valid_plans.specs.Surveys.{NamedFirst, Once}
 
 pub same-or-not : (m n : ℕ) → (m ≡ n) ⊎ (m ≢ n)
 same-or-not zero zero = inl refl
@@ -28,11 +28,6 @@ module _ {X : Type 0} where
   slice_get-set_other (x ∷ xs) zero (suc j) w h = refl
   slice_get-set_other (x ∷ xs) (suc i) zero w h = refl
   slice_get-set_other (x ∷ xs) (suc i) (suc j) w h = slice_get-set_other xs i j w (λ e. h (ap (λ k. suc k) e))
-
-  pub slice_get-left : (xs ys : List X) (i : ℕ) → i < length xs → slice_get (xs ++ ys) i ≡ slice_get xs i
-  slice_get-left [] ys i h = absurd (omega (arith, h))
-  slice_get-left (x ∷ xs) ys zero h = refl
-  slice_get-left (x ∷ xs) ys (suc i) h = slice_get-left xs ys i (omega (arith, h))
 
   pub slice_get-end : (xs : List X) (y : X) (i : ℕ) (z : X) → slice_get (xs ++ y ∷ []) i ≡ Some z → ((i < length xs) × (slice_get xs i ≡ Some z)) ⊎ ((i ≡ length xs) × (y ≡ z))
   slice_get-end [] y zero z e = inr (refl, cc)

@@ -7,7 +7,7 @@ use Rattle.ps_plan.specs.Plans.{IsPlan, Plan}
 use Rattle.ps_frame.specs.Trees.{IsExpression}
 use Rattle.ps_plan.proofs.Complete.{expr-complete, node-is-complete}
 use Rattle.ps_survey.specs.Orders.{IsExprOrder, IsNodeOrder}
-use Rattle.ps_survey.specs.Search.{NamedFirst, Once}
+use Rattle.valid_plans.specs.Surveys.{NamedFirst, Once}
 use Rattle.ps_survey.proofs.Lists.{at-from, from-at}
 
 -- the place of an element of a front

@@ -9,7 +9,7 @@ use Rattle.ps_plan.specs.Entries.{entry_exprs, entry_inputs}
 use Rattle.ps_plan.specs.declared.ir.IR.{IR}
 use Rattle.ps_survey.specs.Counts.{looks_at, names_in}
 use Rattle.ps_survey.specs.Orders.{all_in, exprs_in, operands_in}
-use Rattle.ps_survey.specs.Search.{Once}
+use Rattle.valid_plans.specs.Surveys.{Once}
 use Rattle.ps_survey.proofs.Lists.{at-from, from-at, same-or-not}
 
 later : (x y : ℕ) (xs : List ℕ) → Contains xs y → Contains (x ∷ xs) y

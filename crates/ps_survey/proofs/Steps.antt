@@ -4,7 +4,8 @@ use Rattle.std.specs.Prelude.{Option, Some, None, Result, Ok, Err, Contains, IfO
 use Rattle.std.proofs.lemmas.List.Elements.{Contains-append_left, Contains-push, Contains-push_cases}
 use Rattle.std.proofs.lemmas.Option.{slice_get_within}
 use Rattle.ps_plan.specs.Graph.{Path, Leads, here, onward}
-use Rattle.ps_survey.specs.Search.{AtRest, Ended, HasStopped, IsMarked, IsTrail, NamedFirst, Once, Underway, looks_left}
+use Rattle.ps_survey.specs.Search.{AtRest, Ended, HasStopped, IsMarked, IsTrail, Underway, looks_left}
+use Rattle.valid_plans.specs.Surveys.{NamedFirst, Once}
 use Rattle.ps_survey.specs.declared.search.Mark.{Mark}
 use Rattle.ps_survey.specs.declared.search.Mark.TheVariants as mark
 use Rattle.ps_survey.specs.declared.search.Stop.{Stop}

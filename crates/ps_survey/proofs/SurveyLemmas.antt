@@ -12,10 +12,9 @@ use Rattle.ps_plan.specs.Refusals.{GraphRefused, IsMisshapen, IsPastLimits, IsRe
 use Rattle.ps_plan.specs.Graph.{HasNoCircle, IsInRange, Reached, here, onward}
 use Rattle.ps_meaning.specs.PlanTrees.{depth, occurrences}
 use Rattle.ps_plan.specs.Plans.{Plan, tree_of}
-use Rattle.ps_survey.specs.Extents.{IsWithinLimits}
+use Rattle.valid_plans.specs.Surveys.{IsSurvey, IsWithinLimits}
 use Rattle.ps_survey.specs.Flaws.{Flaw, IsFlaw, IsFlawOrMemory, flawed, memory, root_missing, input_missing, expr_missing, in_circle, expr_in_circle, too_deep, too_large}
 use Rattle.ps_survey.specs.Orders.{IsExprOrder, IsNodeOrder}
-use Rattle.ps_survey.specs.Surveys.{IsSurvey}
 use Rattle.ps_survey.proofs.NoCircles.{has-no-circle, is-in-range, is-plan, nodes-in}
 
 pub is-memory : (plan : Plan) (e : PolarsError) → e ≡ error.OutOfMemory → IsFlawOrMemory plan e

@@ -1,5 +1,5 @@
 -- How deep and how large trees are, as far as the limits need it.
-use Rattle.std.specs.Prelude.{◌≡◌, ℕ, ◌≤◌, max, min, List, [], ◌∷◌, slice_get, Some}
+use Rattle.std.specs.Prelude.{◌≡◌, ℕ, max, min, List, [], ◌∷◌, slice_get, Some}
 use Rattle.ps_frame.specs.Parts.{tree_depth}
 use Rattle.ps_frame.specs.Trees.{tree_at, tree_size}
 use Rattle.ps_frame.specs.declared.expr.AExpr.{AExpr}
@@ -34,7 +34,3 @@ node_depth nodes exprs n = depth (plan_at nodes exprs (record { 0 = n }))
 
 abbrev pub node_size : List IR → List AExpr → ℕ → ℕ
 node_size nodes exprs n = occurrences (plan_at nodes exprs (record { 0 = n }))
-
--- no limit is passed
-abbrev pub IsWithinLimits : ℕ → ℕ → Type 0
-IsWithinLimits depth size = (depth ≤ 256) × (size ≤ 65536)

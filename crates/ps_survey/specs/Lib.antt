@@ -3,4 +3,3 @@ pub mod Extents
 pub mod Flaws
 pub mod Orders
 pub mod Search
-pub mod Surveys

@@ -5,7 +5,8 @@ use Rattle.ps_plan.specs.Graph.{Names, Path, exprs_at, inputs_at, named_by, oper
 use Rattle.ps_plan.specs.Plans.{Plan}
 use Rattle.ps_plan.specs.Entries.{entry_exprs, entry_inputs}
 use Rattle.ps_plan.specs.declared.ir.IR.{IR}
-use Rattle.ps_survey.specs.Search.{AtRest, IsOrderFrom, NamedFirst, Once}
+use Rattle.ps_survey.specs.Search.{AtRest, IsOrderFrom}
+use Rattle.valid_plans.specs.Surveys.{NamedFirst, Once}
 use Rattle.ps_survey.specs.declared.search.Mark.{Mark}
 
 -- the reached nodes

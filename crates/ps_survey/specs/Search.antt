@@ -1,6 +1,7 @@
 -- What a depth-first search knows while it is under way, and when it has ended.
-use Rattle.std.specs.Prelude.{◌≡◌, ◌≢◌, ℕ, suc, ◌+◌, ◌-◌, ◌<◌, ◌≤◌, ◌⊎◌, List, [], ◌∷◌, ◌++◌, length, take, slice_get, Some, Contains, AllPairs, ⊤}
+use Rattle.std.specs.Prelude.{◌≡◌, ℕ, suc, ◌+◌, ◌-◌, ◌<◌, ◌≤◌, ◌⊎◌, List, [], ◌∷◌, ◌++◌, length, slice_get, Some, Contains, ⊤}
 use Rattle.ps_plan.specs.Graph.{Path, Leads}
+use Rattle.valid_plans.specs.Surveys.{NamedFirst, Once}
 use Rattle.ps_survey.specs.declared.search.Mark.{Mark}
 use Rattle.ps_survey.specs.declared.search.Mark.TheVariants as mark
 use Rattle.ps_survey.specs.declared.search.Stop.{Stop}
@@ -9,14 +10,6 @@ use Rattle.ps_survey.specs.declared.search.Stop.TheVariants as stop
 -- the number has this mark
 abbrev pub IsMarked : List Mark → ℕ → Mark → Type 0
 IsMarked marks n m = slice_get marks n ≡ Some m
-
--- wherever a number stands in the list, all that it names stands before it
-abbrev pub NamedFirst : (ℕ → List ℕ) → List ℕ → Type 0
-NamedFirst next order = (i n m : ℕ) → slice_get order i ≡ Some n → Contains (next n) m → Contains (take i order) m
-
--- each number stands once
-abbrev pub Once : List ℕ → Type 0
-Once xs = AllPairs (λ a b. a ≢ b) xs
 
 -- the numbers are a way: each is named by the one before it, and the last names the end
 abbrev pub IsTrail : (ℕ → List ℕ) → ℕ → List ℕ → ℕ → Type 0

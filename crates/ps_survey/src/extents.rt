@@ -5,7 +5,7 @@ ghost use Rattle.ps_frame.specs.declared.refusal.PolarsError.TheVariants as refu
 ghost use Rattle.ps_survey.specs.Counts.{looks_at};
 ghost use Rattle.ps_survey.specs.Extents.{HasExtent, IsExtent, expr_depth, expr_size, largest};
 ghost use Rattle.ps_survey.specs.Orders.{operands_in};
-ghost use Rattle.ps_survey.specs.Search.{NamedFirst};
+ghost use Rattle.valid_plans.specs.Surveys.{NamedFirst};
 
 use crate::names::Operands;
 use crate::search::Names;

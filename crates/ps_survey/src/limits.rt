@@ -4,10 +4,10 @@ ghost use Rattle.pu_base.specs.declared.arena.Node.{Node};
 ghost use Rattle.ps_plan.specs.Graph.{HasNoCircle, Reached};
 ghost use Rattle.ps_plan.specs.Plans.{IsPlan};
 ghost use Rattle.ps_survey.specs.Counts.{looks_at};
-ghost use Rattle.ps_survey.specs.Extents.{HasExtent, IsExtent, IsWithinLimits, expr_depth, expr_size, largest, node_depth, node_size};
+ghost use Rattle.ps_survey.specs.Extents.{HasExtent, IsExtent, expr_depth, expr_size, largest, node_depth, node_size};
+ghost use Rattle.valid_plans.specs.Surveys.{IsWithinLimits, NamedFirst};
 ghost use Rattle.ps_survey.specs.Flaws.{IsFlawOrMemory, plan_of};
 ghost use Rattle.ps_survey.specs.Orders.{all_in, exprs_in, inputs_in};
-ghost use Rattle.ps_survey.specs.Search.{NamedFirst};
 
 use crate::extents::{Extent, extent_below};
 use crate::names::{Exprs, Inputs};

@@ -12,7 +12,8 @@ ghost use Rattle.ps_meaning.specs.StepRefusals.{invalid_plan};
 ghost use Rattle.ps_survey.specs.Counts.{looks_at, names_in};
 ghost use Rattle.ps_survey.specs.Flaws.{IsFlaw, IsFlawOrMemory, plan_of};
 ghost use Rattle.ps_survey.specs.Orders.{HasVisited, IsExprOrder, IsNodeOrder, exprs_in, operands_in};
-ghost use Rattle.ps_survey.specs.Search.{AtRest, Ended, HasStopped, Once, looks_left};
+ghost use Rattle.ps_survey.specs.Search.{AtRest, Ended, HasStopped, looks_left};
+ghost use Rattle.valid_plans.specs.Surveys.{Once};
 
 use crate::names::{Exprs, Inputs, Operands};
 use crate::search::{Names, Search, Stop, order_from};

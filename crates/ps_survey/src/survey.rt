@@ -12,8 +12,7 @@ ghost use Rattle.ps_plan.specs.Refusals.{IsRefused};
 ghost use Rattle.ps_survey.specs.Counts.{all_names};
 ghost use Rattle.ps_survey.specs.Flaws.{Flaw, IsFlawOrMemory, plan_of};
 ghost use Rattle.ps_survey.specs.Orders.{inputs_in};
-ghost use Rattle.ps_survey.specs.Search.{NamedFirst, Once};
-ghost use Rattle.ps_survey.specs.Surveys.{IsSurvey};
+ghost use Rattle.valid_plans.specs.Surveys.{IsSurvey, NamedFirst, Once};
 
 use crate::extents::expr_extents;
 use crate::limits::check_limits;
@@ -46,6 +45,13 @@ impl Survey {
         ensures { result.now ≡ self.now }
     {
         self.order.as_slice()
+    }
+
+    /// These numbers, no longer as a survey.
+    pub fn into_order(self) -> Vec<usize>
+        ensures { result.items ≡ self }
+    {
+        self.order
     }
 }
 

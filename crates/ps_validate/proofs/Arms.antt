@@ -11,7 +11,7 @@ use Rattle.ps_meaning.specs.PlanTrees.{all_sizes}
 use Rattle.ps_meaning.specs.Steps.{Step}
 use Rattle.ps_plan.specs.Entries.{entry_inputs, entry_step}
 use Rattle.ps_plan.specs.declared.ir.IR.{IR}
-use Rattle.ps_validate.specs.Known.{Known, schemas_in}
+use Rattle.valid_plans.specs.Known.{Known, schemas_in}
 use Rattle.ps_validate.specs.Nodes.{GivesSchema, IsNodeError}
 
 pub if-ok : {T E : Type 0} {P : T → Type 0} (Q : T → Type 0) (r : Result T E) → IfOk r P → ((t : T) → P t → Q t) → IfOk r Q
@@ -37,14 +37,6 @@ module _ (F : Functions) (at : Node) (f : Node → Tree) (known : Known) (x e : 
   pub arm-refused : {P : PolarsError → Type 0} (r : Result Fields PolarsError) → IfErr r P → ((s : PolarsError) → P s → IsNodeError F at step ss s) → IfErr r (λ s. IsNodeError F at (entry_step f x) (schemas_in known (entry_inputs x)) s)
   arm-refused r h p =
       if-error (λ s. IsNodeError F at (entry_step f x) (schemas_in known (entry_inputs x)) s) r h (λ s q. subst (λ st. IsNodeError F at st (schemas_in known (entry_inputs x)) s) (sym whole-step) (subst (λ ts. IsNodeError F at step ts s) (sym whole-schemas) (p s q)))
-
-pub left-complete : (xs ys : List Tree) → AllByRecursion IsComplete (xs ++ ys) → AllByRecursion IsComplete xs
-left-complete [] ys h = tt
-left-complete (x ∷ xs) ys h = (h.0, left-complete xs ys h.1)
-
-pub right-complete : (xs ys : List Tree) → AllByRecursion IsComplete (xs ++ ys) → AllByRecursion IsComplete ys
-right-complete [] ys h = h
-right-complete (x ∷ xs) ys h = right-complete xs ys h.1
 
 pub sizes-append : (xs ys : List Tree) → all_sizes (xs ++ ys) ≡ all_sizes xs + all_sizes ys
 sizes-append [] ys = omega arith

@@ -29,7 +29,7 @@ use Rattle.ps_meaning.proofs.Containing.{contains-first, contains-later}
 use Rattle.ps_plan.proofs.Unfolding.{complete-is, plan_at-is}
 use Rattle.ps_survey.proofs.Lists.{from-at, same-or-not, slice_get-set_other, slice_get-set_same}
 use Rattle.ps_survey.specs.Flaws.{Flaw}
-use Rattle.ps_survey.specs.Surveys.{IsSurvey}
+use Rattle.valid_plans.specs.Surveys.{IsSurvey}
 use Rattle.ps_walks.specs.Accepted.{schemas_at}
 use Rattle.ps_walks.specs.Fit.{HasSchemas, plan_schemas}
 use Rattle.ps_validate.proofs.LeftOuts.{first-or-later, no-item}
@@ -37,9 +37,10 @@ use Rattle.ps_validate.proofs.Unrefused.{StandsFor, entry-error, part-error, pla
 use Rattle.ps_validate.proofs.Weights.{entry_weight, order-weighs, weight}
 use Rattle.ps_validate.specs.Checks.{IsCheckError}
 use Rattle.ps_validate.specs.Fit.{HaveOneInput, IsWellFormed, IsPlaced}
-use Rattle.ps_validate.specs.Known.{AreKnown, Known, schemas_in}
+use Rattle.valid_plans.specs.Known.{AreKnown, Known, schemas_in}
 use Rattle.ps_validate.specs.Nodes.{GivesSchema, IsNodeError}
-use Rattle.ps_validate.specs.Valid.{HaveSchemas, IsPlanError}
+use Rattle.valid_plans.specs.Valid.{HaveSchemas}
+use Rattle.ps_validate.specs.Errors.{IsPlanError}
 
 pub take-next : (xs : List ℕ) (i n m : ℕ) → slice_get xs i ≡ Some n → Contains (take (i + 1) xs) m → Contains (take i xs) m ⊎ (n ≡ m)
 take-next xs i n m at c =

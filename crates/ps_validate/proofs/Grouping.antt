@@ -22,7 +22,7 @@ use Rattle.ps_meaning.specs.Steps.{GroupStep, Name, Named, exprs_of, group_by}
 use Rattle.ps_typing.proofs.Parts.{AreAmong, among-left, among-right, carried}
 use Rattle.ps_validate.proofs.Selecting.{both-some, breaks-none, holds-none, lacks-none, names-same, select-error}
 use Rattle.ps_validate.proofs.Typed.{gives-by}
-use Rattle.ps_validate.specs.Fields.{IsFieldError, all_parts, not_scalar}
+use Rattle.valid_plans.specs.Fields.{IsFieldError, all_parts, not_scalar}
 use Rattle.ps_validate.specs.Nodes.{GivesSchema, IsNodeError}
 
 pub exprs-append : (ks as' : List Named) → exprs_of (ks ++ as') ≡ exprs_of ks ++ exprs_of as'

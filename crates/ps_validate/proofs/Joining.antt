@@ -24,7 +24,7 @@ use Rattle.ps_validate.proofs.Grouping.{parts-append}
 use Rattle.ps_validate.proofs.Keying.{among-error, keys-break, keys-hold, keys-lack}
 use Rattle.ps_validate.proofs.Typed.{gives-by, repeat-error}
 use Rattle.ps_validate.specs.Columns.{IsRepeatError}
-use Rattle.ps_validate.specs.Fields.{all_parts}
+use Rattle.valid_plans.specs.Fields.{all_parts}
 use Rattle.ps_validate.specs.Nodes.{GivesSchema, IsNodeError}
 
 same-self : (k : DataType) → same_kind k k ≡ true

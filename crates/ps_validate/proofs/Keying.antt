@@ -26,7 +26,7 @@ use Rattle.ps_typing.proofs.Exact.{any-at, none-refused}
 use Rattle.ps_typing.proofs.Parts.{AreAmong, among-left, among-right, among-then, carried}
 use Rattle.ps_typing.specs.Refused.{IsErrorAmong}
 use Rattle.ps_validate.proofs.Selecting.{any-parts, breaks-nothing, reads-nothing, refuses-left}
-use Rattle.ps_validate.specs.Fields.{all_parts}
+use Rattle.valid_plans.specs.Fields.{all_parts}
 use Rattle.ps_validate.specs.Nodes.{IsNodeError}
 
 -- the keys from i on are still to be typed

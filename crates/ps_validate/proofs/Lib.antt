@@ -1,4 +1,3 @@
-pub mod Adding
 pub mod Arms
 pub mod BareNames
 pub mod Caching
@@ -6,7 +5,6 @@ pub mod Checking
 pub mod Distinctness
 pub mod Fitting
 pub mod Grouping
-pub mod Growing
 pub mod Joining
 pub mod KeyCounts
 pub mod Keying
@@ -21,7 +19,6 @@ pub mod Selecting
 pub mod Sorting
 pub mod Stacked
 pub mod Stacking
-pub mod Staying
 pub mod StepParts
 pub mod Typed
 pub mod Unrefused

@@ -15,9 +15,9 @@ use Rattle.ps_frame.specs.declared.value.DataType.{DataType}
 use Rattle.ps_meaning.specs.StepRefusals.{lacks_name, repeats}
 use Rattle.ps_meaning.specs.Schemas.{both as both_of, is_among, named_fields, names_of}
 use Rattle.ps_meaning.specs.Steps.{Name}
-use Rattle.ps_validate.proofs.Adding.{among-append, among-has, fields-next, names-next, repeats-again}
+use Rattle.valid_plans.proofs.Adding.{among-append, among-has, fields-next, names-next, repeats-again}
 use Rattle.ps_validate.specs.Columns.{IsNamingError}
-use Rattle.ps_validate.specs.Fields.{IsPushError}
+use Rattle.valid_plans.specs.Fields.{IsPushError}
 
 -- a name has a kind exactly where it stands
 pub kind-has : (n : Name) (s : Fields) (k : DataType) → field_kind n s ≡ Some k → has_name n s ≡ true

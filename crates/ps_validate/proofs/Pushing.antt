@@ -12,9 +12,9 @@ use Rattle.ps_frame.specs.declared.value.DataType.{DataType}
 use Rattle.ps_meaning.specs.StepRefusals.{repeats}
 use Rattle.ps_meaning.specs.Schemas.{is_among, names_of, suffixed, without}
 use Rattle.ps_meaning.specs.Steps.{Name}
-use Rattle.ps_validate.proofs.Adding.{among-has, repeats-again}
+use Rattle.valid_plans.proofs.Adding.{among-has, repeats-again}
 use Rattle.ps_validate.specs.Columns.{IsRepeatError, absent_from, with_kinds}
-use Rattle.ps_validate.specs.Fields.{IsPushError}
+use Rattle.valid_plans.specs.Fields.{IsPushError}
 
 -- a field by its name and its kind
 pub field-is : {A B : Type 0} (o : Option (A × B)) (a : A) (b : B) → option_map (λ (f : A × B). f.0) o ≡ Some a → option_map (λ (f : A × B). f.1) o ≡ Some b → o ≡ Some (a, b)

@@ -24,9 +24,9 @@ use Rattle.ps_meaning.specs.StepRefusals.{break_rules, lacks_column, repeats}
 use Rattle.ps_meaning.specs.Schemas.{both as both_of, expr_names, fields_of, is_among, names_of}
 use Rattle.ps_meaning.specs.Steps.{Name, Named, exprs_of, filter, select}
 use Rattle.ps_typing.proofs.Exact.{any-at, any-weaker, breaks-refused, none-refused, unknown-refused}
-use Rattle.ps_validate.proofs.Adding.{among-has}
+use Rattle.valid_plans.proofs.Adding.{among-has}
 use Rattle.ps_typing.specs.Refused.{IsTypingError}
-use Rattle.ps_validate.specs.Fields.{IsFieldError, all_parts}
+use Rattle.valid_plans.specs.Fields.{IsFieldError, all_parts}
 use Rattle.ps_validate.specs.Nodes.{IsNodeError}
 
 never : {P : Type 0} (b : Bool) → b ≡ false → b ≡ true → P

@@ -14,7 +14,7 @@ use Rattle.ps_meaning.specs.Steps.{SortStep, sort}
 use Rattle.ps_typing.specs.Refused.{IsErrorAmong}
 use Rattle.ps_validate.proofs.Keying.{among-error, keys-break, keys-hold, keys-lack}
 use Rattle.ps_validate.proofs.Typed.{gives-by}
-use Rattle.ps_validate.specs.Fields.{all_parts}
+use Rattle.valid_plans.specs.Fields.{all_parts}
 use Rattle.ps_validate.specs.Nodes.{GivesSchema, IsNodeError}
 
 module _ (F : Functions) where

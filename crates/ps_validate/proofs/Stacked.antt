@@ -24,8 +24,8 @@ use Rattle.ps_validate.proofs.Selecting.{breaks-none, differ, holds-none, lacks-
 use Rattle.ps_validate.proofs.Stacking.{put-all}
 use Rattle.ps_validate.proofs.Typed.{gives-by, names-are, none-left, repeat-error}
 use Rattle.ps_validate.specs.Columns.{IsRepeatError, absent_from, with_kinds}
-use Rattle.ps_validate.specs.Fields.{IsFieldError}
-use Rattle.ps_validate.specs.Known.{AreKnown, IsKnown, Known, schema_in, schemas_in}
+use Rattle.valid_plans.specs.Fields.{IsFieldError}
+use Rattle.valid_plans.specs.Known.{AreKnown, IsKnown, Known, schema_in, schemas_in}
 use Rattle.ps_validate.specs.Nodes.{GivesSchema, IsNodeError}
 
 never : false ≡ true → ⊥

@@ -13,7 +13,7 @@ use Rattle.ps_frame.specs.Tables.{Fields, field_kind}
 use Rattle.ps_frame.specs.declared.value.DataType.{DataType}
 use Rattle.ps_meaning.specs.Schemas.{is_among, names_of, put_field, put_fields}
 use Rattle.ps_meaning.specs.Steps.{Name}
-use Rattle.ps_validate.proofs.Adding.{among-has}
+use Rattle.valid_plans.proofs.Adding.{among-has}
 use Rattle.ps_validate.proofs.Naming.{lacking}
 use Rattle.ps_validate.specs.Columns.{absent_from, with_kinds}
 

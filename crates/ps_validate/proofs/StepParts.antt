@@ -18,7 +18,7 @@ use Rattle.ps_plan.specs.declared.ir.IR.TheVariants as entry
 use Rattle.ps_plan.proofs.Complete.{numbers}
 use Rattle.ps_meaning.proofs.Containing.{contains-later}
 use Rattle.ps_validate.proofs.LeftOuts.{first-or-later, no-item}
-use Rattle.ps_validate.specs.Fields.{all_parts}
+use Rattle.valid_plans.specs.Fields.{all_parts}
 
 -- the trees of some numbers
 abbrev trees : (Node → Tree) → List Node → List Tree

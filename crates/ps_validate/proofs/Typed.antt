@@ -15,7 +15,7 @@ use Rattle.ps_meaning.specs.Schemas.{first_schema, names_of, output_names, outpu
 use Rattle.ps_meaning.specs.Steps.{Name, Step}
 use Rattle.ps_validate.proofs.Selecting.{differ}
 use Rattle.ps_validate.specs.Columns.{IsEmptyError, IsRepeatError}
-use Rattle.ps_validate.specs.Fields.{all_parts}
+use Rattle.valid_plans.specs.Fields.{all_parts}
 use Rattle.ps_validate.specs.Nodes.{GivesSchema, HoldsLeftOut, IsNodeError}
 
 -- what holds of an error holds of it where it is passed on

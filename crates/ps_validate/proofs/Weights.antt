@@ -16,8 +16,7 @@ use Rattle.ps_plan.proofs.Complete.{numbers, there}
 use Rattle.ps_meaning.proofs.Containing.{contains-first, contains-later}
 use Rattle.ps_plan.proofs.ReachedSteps.{path-then}
 use Rattle.ps_plan.proofs.Unfolding.{plan_at-is}
-use Rattle.ps_survey.specs.Search.{Once}
-use Rattle.ps_survey.specs.Surveys.{IsSurvey}
+use Rattle.valid_plans.specs.Surveys.{IsSurvey, Once}
 use Rattle.ps_validate.proofs.LeftOuts.{first-or-later, no-item}
 
 -- how many nodes and expressions stand at an entry, if there is one

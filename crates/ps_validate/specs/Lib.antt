@@ -1,8 +1,6 @@
 pub mod Checks
 pub mod Columns
 pub mod Entries
-pub mod Fields
+pub mod Errors
 pub mod Fit
-pub mod Known
 pub mod Nodes
-pub mod Valid

@@ -10,7 +10,7 @@ use Rattle.ps_frame.specs.declared.refusal.PolarsError.TheVariants as error
 use Rattle.ps_meaning.specs.StepRefusals.{Refusal, TypingRefused, column_not_found, duplicate, schema_mismatch, unsupported}
 use Rattle.ps_meaning.specs.Schemas.{output_schema}
 use Rattle.ps_meaning.specs.Steps.{Step, cache, sink, slice, step_exprs}
-use Rattle.ps_validate.specs.Fields.{all_parts}
+use Rattle.valid_plans.specs.Fields.{all_parts}
 
 -- a part of one of the step's expressions is left out
 abbrev pub HoldsLeftOut : Step → What → Type 0

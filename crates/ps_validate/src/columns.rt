@@ -5,9 +5,8 @@ ghost use Rattle.ps_frame.specs.Tables.{field_kind};
 ghost use Rattle.ps_meaning.specs.Schemas.{is_among, named_fields, names_of, suffixed, without};
 ghost use Rattle.ps_meaning.specs.Steps.{Name};
 ghost use Rattle.ps_validate.specs.Columns.{IsEmptyError, IsNamingError, IsRepeatError, absent_from, with_kinds};
-ghost use Rattle.ps_validate.specs.Fields.{IsPushError};
+ghost use Rattle.valid_plans.specs.Fields.{IsPushError};
 
-use crate::fields::push_field;
 use ps_frame::expr::What;
 use ps_frame::refusal::{PolarsError, PolarsResult};
 use ps_frame::schema::Schema;
@@ -15,6 +14,7 @@ use ps_frame::value::DataType;
 use pu_base::{Node, PlSmallStr};
 use std::alloc::Global;
 use std::collections::BTreeSet;
+use valid_plans::fields::push_field;
 
 /// A schema that has columns; it is refused at the node `at` where it has none.
 pub fn some_columns(at: Node, schema: Schema) -> PolarsResult<Schema>

@@ -8,7 +8,7 @@ ghost use Rattle.ps_meaning.specs.PlanTrees.{all_sizes};
 ghost use Rattle.ps_meaning.specs.Schemas.{bare_names, is_among};
 ghost use Rattle.ps_meaning.specs.Steps.{Name, key_trees};
 ghost use Rattle.ps_typing.specs.Refused.{IsErrorAmong};
-ghost use Rattle.ps_validate.specs.Fields.{all_parts};
+ghost use Rattle.valid_plans.specs.Fields.{all_parts};
 
 use ps_frame::expr::{AExpr, entry};
 use ps_frame::refusal::{PolarsError, PolarsResult};

@@ -4,15 +4,12 @@
 pub mod caches;
 pub mod columns;
 pub mod entries;
-pub mod fields;
 pub mod functions;
 pub mod joins;
 pub mod keys;
-pub mod laws;
 pub mod nodes;
 pub mod positions;
 pub mod projections;
 pub mod schemas;
 pub mod stacks;
-pub mod table;
 pub mod validate;

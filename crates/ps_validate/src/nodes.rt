@@ -7,7 +7,7 @@ ghost use Rattle.ps_meaning.specs.Steps.{step_exprs};
 ghost use Rattle.ps_plan.specs.Entries.{entry_inputs, entry_step};
 ghost use Rattle.ps_validate.specs.Checks.{IsCheckError, IsChecked};
 ghost use Rattle.ps_validate.specs.Fit.{IsWellFormed};
-ghost use Rattle.ps_validate.specs.Known.{AreKnown, schemas_in};
+ghost use Rattle.valid_plans.specs.Known.{AreKnown, schemas_in};
 ghost use Rattle.ps_validate.specs.Nodes.{GivesSchema, IsNodeError};
 
 use crate::functions::function_schema;
@@ -18,7 +18,6 @@ use crate::projections::{
 };
 use crate::schemas::{filter_schema, group_by_schema, passed_schema, select_schema, sort_schema};
 use crate::stacks::{hconcat_schema, hstack_schema, row_index_schema, union_schema};
-use crate::table::Schemas;
 use ps_frame::expr::AExpr;
 use ps_frame::functions::Functions;
 use ps_frame::refusal::PolarsResult;
@@ -28,6 +27,7 @@ use ps_plan::ir::IR;
 use pu_base::{Arena, Node, Steps};
 use std::alloc::Global;
 use std::sync::ledger::Ledger;
+use valid_plans::table::Schemas;
 
 // The schema of a node whose entry fits and whose inputs have known schemas.
 fn node_schema<F: Functions, L: Ledger>(

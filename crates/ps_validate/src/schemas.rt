@@ -13,7 +13,6 @@ ghost use Rattle.ps_meaning.specs.Steps.{Cut, Step, exprs_of, filter as filter_s
 ghost use Rattle.ps_validate.specs.Nodes.{GivesSchema, IsNodeError, PassesColumns};
 
 use crate::columns::{shared_columns, some_columns};
-use crate::fields::push_typed;
 use crate::keys::key_kinds;
 use ps_frame::expr::{AExpr, What};
 use ps_frame::laws::kinds_are_exact;
@@ -26,6 +25,7 @@ use ps_typing::nature::independence_of;
 use pu_base::{Arena, Node, Steps};
 use std::alloc::Global;
 use std::sync::ledger::Ledger;
+use valid_plans::fields::push_typed;
 
 /// The schema of a select.
 pub fn select_schema<L: Ledger>(

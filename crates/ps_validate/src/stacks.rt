@@ -5,14 +5,12 @@ ghost use Rattle.ps_frame.specs.Functions.{Functions};
 ghost use Rattle.ps_frame.specs.Trees.{IsComplete, tree_at};
 ghost use Rattle.ps_meaning.specs.PlanTrees.{all_sizes};
 ghost use Rattle.ps_meaning.specs.Steps.{Cut, exprs_of, hconcat as hconcat_step, hstack as hstack_step, named_trees, row_index as row_index_step, union as union_step};
-ghost use Rattle.ps_validate.specs.Known.{AreKnown, schemas_in};
+ghost use Rattle.valid_plans.specs.Known.{AreKnown, schemas_in};
 ghost use Rattle.ps_validate.specs.Nodes.{GivesSchema, IsNodeError};
 
 use crate::columns::{
     push_absent, push_all, push_copy, push_with_kinds, shared_columns, some_columns,
 };
-use crate::fields::push_typed;
-use crate::table::Schemas;
 use ps_frame::expr::AExpr;
 use ps_frame::laws::kinds_are_exact;
 use ps_frame::refusal::{PolarsError, PolarsResult};
@@ -22,6 +20,8 @@ use ps_meaning::options::ExprIR;
 use pu_base::{Arena, Node, PlSmallStr, Steps};
 use std::alloc::Global;
 use std::sync::ledger::Ledger;
+use valid_plans::fields::push_typed;
+use valid_plans::table::Schemas;
 
 /// The schema of an hstack: the input's columns, with those of the expressions in the place of equal
 /// names, and then the new ones.

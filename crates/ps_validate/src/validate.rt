@@ -1,4 +1,4 @@
-//! Valid plans.
+//! The plan of a root, held against the rules for a valid plan.
 ghost use Rattle.std.specs.Prelude.{◌≡◌, ◌+◌, ◌*◌, ◌≤◌, ℕ, IfErr, IfOk, OnOk, length};
 ghost use Rattle.ps_frame.specs.declared.expr.AExpr.{AExpr};
 ghost use Rattle.ps_frame.specs.declared.refusal.Why.{Why};
@@ -6,65 +6,24 @@ ghost use Rattle.ps_plan.specs.Graph.{Reached};
 ghost use Rattle.ps_plan.specs.Refusals.{IsValid};
 ghost use Rattle.ps_survey.specs.Counts.{all_names};
 ghost use Rattle.ps_survey.specs.Flaws.{Flaw, plan_of};
-ghost use Rattle.ps_survey.specs.Surveys.{IsSurvey};
+ghost use Rattle.valid_plans.specs.Surveys.{IsSurvey};
 ghost use Rattle.ps_walks.specs.Fit.{HasSchemas};
 ghost use Rattle.ps_validate.specs.Fit.{HaveOneInput};
-ghost use Rattle.ps_validate.specs.Known.{IsKnown, schema_in};
-ghost use Rattle.ps_validate.specs.Valid.{HaveSchemas, IsPlanError, IsValidWith};
+ghost use Rattle.valid_plans.specs.Valid.{HaveSchemas, IsValidWith};
+ghost use Rattle.ps_validate.specs.Errors.{IsPlanError};
 
 use crate::caches::check_caches;
 use crate::nodes::check_node;
-use crate::table::Schemas;
 use ps_frame::expr::AExpr;
 use ps_frame::functions::Functions;
 use ps_frame::refusal::PolarsResult;
-use ps_frame::schema::Schema;
 use ps_plan::ir::IR;
 use ps_survey::survey::survey_plan;
 use pu_base::{Arena, Node, Steps};
 use std::alloc::Global;
-use std::marker::Model;
 use std::sync::ledger::Ledger;
-
-/// The nodes of a valid plan, with the schema of each node that the root leads to.
-#[derive(Drop)]
-pub struct Valid {
-    root: Node,
-    ir: Arena<IR>,
-    schemas: Schemas,
-}
-
-impl Model for Valid {
-    ghost use Rattle.ps_validate.specs.Valid.{ValidNodes};
-
-    ghost Value = { ValidNodes };
-
-    ghost view = { λ v. record { root = v.root; nodes = v.ir.items; schemas = v.schemas } };
-}
-
-impl Valid {
-    /// The root of the plan.
-    pub fn root(&self) -> Node
-        ensures { result ≡ self.now.root }
-    {
-        self.root
-    }
-
-    /// The nodes.
-    pub fn ir(&self) -> &Arena<IR>
-        ensures { result.now.items ≡ self.now.nodes }
-    {
-        &self.ir
-    }
-
-    /// The schema of a node that the root leads to.
-    pub fn schema(&self, node: Node) -> &Schema
-        requires { IsKnown self.now.schemas node }
-        ensures { result.now ≡ schema_in self.now.schemas node }
-    {
-        self.schemas.get(node)
-    }
-}
+use valid_plans::table::Schemas;
+use valid_plans::valid::Valid;
 
 // The schemas of nodes, each of which stands after its inputs.
 fn node_schemas<F: Functions, L: Ledger>(
@@ -126,5 +85,5 @@ pub fn validate<F: Functions, L: Ledger>(
     let survey = survey_plan(alloc, root, &ir, exprs, steps)?;
     check_caches(alloc, survey.order(), &ir, steps)?;
     let schemas = node_schemas(alloc, root, survey.order(), &ir, exprs, functions, steps)?;
-    Ok(Valid { root, ir, schemas })
+    Ok(Valid::new(root, ir, schemas, survey.into_order()))
 }

@@ -1,6 +1,6 @@
 use Rattle.std.proofs.Common.{◌≡◌, ◌∙◌, List, [], ◌∷◌, ◌++◌, ap, subst, sym}
 use Rattle.ps_frame.specs.Tables.{Frame}
-use Rattle.ps_validate.specs.Valid.{plan_with}
+use Rattle.valid_plans.specs.Valid.{plan_with}
 use Rattle.ps_node_eval.specs.Nodes.{FitInputs}
 use Rattle.node_trials.proofs.MapsTested.{map-complete, map-ready, scan-inputs, scan-reached}
 use Rattle.node_trials.proofs.owned_maps.map_table.Goals as goal

@@ -1,7 +1,7 @@
 use Rattle.std.proofs.Common.{◌<◌, List, length, sym, subst}
 use Rattle.ps_plan.proofs.ValidPlans.{reached-below}
 use Rattle.ps_plan.specs.declared.ir.IR.{IR}
-use Rattle.ps_validate.specs.Valid.{plan_with}
+use Rattle.valid_plans.specs.Valid.{plan_with}
 use Rattle.ps_walks.specs.Fit.{plan_schemas}
 use Rattle.node_trials.proofs.Inputs.{all-fit, entry-there, input-reached, one-more}
 use Rattle.node_trials.proofs.tables.+node_table.Goals as goal

@@ -1,5 +1,5 @@
 use Rattle.std.proofs.Common.{◌≡◌, take}
-use Rattle.ps_validate.specs.Valid.{plan_with}
+use Rattle.valid_plans.specs.Valid.{plan_with}
 use Rattle.ps_walks.specs.Accepted.{schemas_at}
 use Rattle.ps_walks.specs.Fit.{plan_schemas}
 use Rattle.ps_node_eval.specs.Ready.{frame_schemas}

@@ -6,7 +6,7 @@ use Rattle.ps_plan.specs.Plans.{tree_of}
 use Rattle.ps_meaning.specs.Schemas.{tree_schema}
 use Rattle.ps_plan.specs.Entries.{entry_step}
 use Rattle.ps_plan.specs.declared.ir.IR.{IR}
-use Rattle.ps_validate.specs.Valid.{plan_with}
+use Rattle.valid_plans.specs.Valid.{plan_with}
 use Rattle.ps_walks.specs.Fit.{plan_schemas}
 use Rattle.ps_node_eval.specs.Ready.{IsReadyFor}
 use Rattle.ps_node_eval.proofs.NodeSteps.{node-faults, node-gives, node-inputs, node-ready, node-schema}

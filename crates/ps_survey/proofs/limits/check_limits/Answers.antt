@@ -3,7 +3,8 @@ use Rattle.std.proofs.lemmas.Option.{slice_get_within}
 use Rattle.std.specs.Prelude.{Bool, false, true, Contains}
 use Rattle.ps_plan.proofs.Unfolding.{IsPlan-in_range}
 use Rattle.ps_survey.specs.Counts.{looks_at}
-use Rattle.ps_survey.specs.Extents.{HasExtent, IsExtent, IsWithinLimits, expr_depth, expr_size, node_depth, node_size}
+use Rattle.ps_survey.specs.Extents.{HasExtent, IsExtent, expr_depth, expr_size, node_depth, node_size}
+use Rattle.valid_plans.specs.Surveys.{IsWithinLimits}
 use Rattle.ps_survey.specs.Flaws.{memory, plan_of}
 use Rattle.ps_survey.specs.Orders.{all_in, exprs_in, inputs_in}
 use Rattle.ps_survey.proofs.ExtentSteps.{named-before, table-all, table-more}

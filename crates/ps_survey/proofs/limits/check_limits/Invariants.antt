@@ -1,7 +1,8 @@
 use Rattle.std.proofs.Common.{◌≡◌, ◌+◌, ◌≤◌, ℕ, length, take}
 use Rattle.std.specs.Prelude.{Contains}
 use Rattle.ps_survey.specs.Counts.{looks_at}
-use Rattle.ps_survey.specs.Extents.{HasExtent, IsWithinLimits, node_depth, node_size}
+use Rattle.ps_survey.specs.Extents.{HasExtent, node_depth, node_size}
+use Rattle.valid_plans.specs.Surveys.{IsWithinLimits}
 use Rattle.ps_survey.specs.Orders.{all_in}
 use Rattle.ps_survey.proofs.limits.check_limits.Given as goal
 

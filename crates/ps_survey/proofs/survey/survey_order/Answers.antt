@@ -6,7 +6,7 @@ use Rattle.ps_survey.specs.Counts.{all_names, looks_at, names_in}
 use Rattle.ps_survey.specs.Extents.{HasExtent, expr_depth, expr_size}
 use Rattle.ps_survey.specs.Flaws.{plan_of}
 use Rattle.ps_survey.specs.Orders.{IsExprOrder, all_in, exprs_in, inputs_in, operands_in}
-use Rattle.ps_survey.specs.Search.{NamedFirst}
+use Rattle.valid_plans.specs.Surveys.{NamedFirst}
 use Rattle.ps_survey.proofs.NoCircles.{has-no-circle, is-expression, is-plan}
 use Rattle.ps_survey.proofs.Pigeons.{all-looks-once, looks-once}
 use Rattle.ps_survey.proofs.SurveyLemmas.{is-memory, survey-of}

@@ -4,7 +4,7 @@ use Rattle.ps_typing.specs.Refused.{IsErrorAmong}
 use Rattle.ps_validate.proofs.Keying.{key-error, key-next}
 use Rattle.ps_validate.proofs.Typed.{passed-on}
 use Rattle.ps_validate.proofs.keys.key_kinds.Goals as goal
-use Rattle.ps_validate.specs.Fields.{all_parts}
+use Rattle.valid_plans.specs.Fields.{all_parts}
 
 pub returns-in_err-typed-clause-refused : goal.returns-in_err-typed-clause-refused
 returns-in_err-typed-clause-refused g c =

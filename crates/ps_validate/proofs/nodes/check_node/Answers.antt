@@ -6,7 +6,7 @@ use Rattle.ps_validate.proofs.Typed.{passed-on}
 use Rattle.ps_validate.proofs.nodes.check_node.Goals as goal
 use Rattle.ps_validate.specs.Checks.{IsCheckError}
 use Rattle.ps_validate.specs.Fit.{IsEntryError}
-use Rattle.ps_validate.specs.Known.{schemas_in}
+use Rattle.valid_plans.specs.Known.{schemas_in}
 
 pub returns-in_err-check_place-clause-refused : goal.returns-in_err-check_place-clause-refused
 returns-in_err-check_place-clause-refused g c =

@@ -16,9 +16,10 @@ use Rattle.ps_plan.specs.declared.ir.IR.{IR}
 use Rattle.ps_plan.specs.declared.ir.IR.TheVariants as entry
 use Rattle.ps_meaning.specs.declared.options.JoinArgs.{JoinArgs}
 use Rattle.ps_meaning.specs.declared.options.SinkType.{SinkType}
-use Rattle.ps_validate.proofs.Arms.{arm-given, arm-refused, left-complete, right-complete, sizes-append}
+use Rattle.ps_validate.proofs.Arms.{arm-given, arm-refused, sizes-append}
+use Rattle.valid_plans.proofs.Growing.{left-complete, right-complete}
 use Rattle.ps_validate.proofs.nodes.node_schema.Goals as goal
-use Rattle.ps_validate.specs.Known.{Known, schema_in, schemas_in}
+use Rattle.valid_plans.specs.Known.{Known, schema_in, schemas_in}
 use Rattle.ps_validate.specs.Nodes.{IsNodeError, PassesColumns}
 
 -- a join by its keys, and a distinct by its columns

@@ -9,7 +9,7 @@ use Rattle.ps_validate.proofs.Selected.{select-gives}
 use Rattle.ps_validate.proofs.Selecting.{select-error}
 use Rattle.ps_validate.proofs.Typed.{answered, passed-on}
 use Rattle.ps_validate.proofs.schemas.select_schema.Goals as goal
-use Rattle.ps_validate.specs.Fields.{IsFieldError}
+use Rattle.valid_plans.specs.Fields.{IsFieldError}
 use Rattle.ps_validate.specs.Nodes.{GivesSchema, IsNodeError}
 use Rattle.std.proofs.Common.{◌∷◌, [], ap, subst}
 

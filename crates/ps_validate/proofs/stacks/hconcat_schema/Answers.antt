@@ -5,7 +5,7 @@ use Rattle.ps_meaning.specs.Steps.{hconcat}
 use Rattle.ps_validate.proofs.Stacked.{hconcat-gives, input-known, join-end, join-error}
 use Rattle.ps_validate.proofs.Typed.{answered, passed-on}
 use Rattle.ps_validate.proofs.stacks.hconcat_schema.Goals as goal
-use Rattle.ps_validate.specs.Known.{schemas_in}
+use Rattle.valid_plans.specs.Known.{schemas_in}
 use Rattle.ps_validate.specs.Nodes.{GivesSchema, IsNodeError}
 use Rattle.std.proofs.Common.{◌≡◌, length, arith}
 

@@ -1,7 +1,7 @@
 use Rattle.std.proofs.Common.{◌≡◌, ◌++◌, drop}
 use Rattle.ps_meaning.specs.Schemas.{joined_schemas}
 use Rattle.ps_validate.proofs.stacks.hconcat_schema.Given as goal
-use Rattle.ps_validate.specs.Known.{AreKnown, schemas_in}
+use Rattle.valid_plans.specs.Known.{AreKnown, schemas_in}
 
 abbrev pub invariant-loop-input : goal.invariant-loop-input
 invariant-loop-input l =

@@ -4,7 +4,7 @@ use Rattle.ps_meaning.specs.Steps.{Cut, union}
 use Rattle.ps_validate.proofs.Stacked.{first-known, inputs-differ, inputs-give}
 use Rattle.ps_validate.proofs.Typed.{answered}
 use Rattle.ps_validate.proofs.stacks.union_schema.Goals as goal
-use Rattle.ps_validate.specs.Known.{schemas_in}
+use Rattle.valid_plans.specs.Known.{schemas_in}
 use Rattle.ps_validate.specs.Nodes.{GivesSchema}
 
 pub get-schema-requires : goal.get-schema-requires

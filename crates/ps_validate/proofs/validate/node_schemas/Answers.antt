@@ -8,7 +8,7 @@ use Rattle.ps_survey.specs.Flaws.{plan_of}
 use Rattle.ps_validate.proofs.Checking.{Checking, checked-schemas, checked-steps, checked-typed, checked-valid, node-complete, node-done, node-error, node-known, node-steps, place-within}
 use Rattle.ps_validate.proofs.Typed.{passed-on}
 use Rattle.ps_validate.proofs.validate.node_schemas.Goals as goal
-use Rattle.ps_validate.specs.Valid.{IsPlanError}
+use Rattle.ps_validate.specs.Errors.{IsPlanError}
 
 pub get-requires : goal.get-requires
 get-requires g c = place-within (g.F.Functions.told c.args.functions.now) (plan_of c.args.root c.args.ir.now.items c.args.exprs.now.items) c.args.order.now c.requires.survey c.requires.flaws c.requires.caches c.loop-node.node-index (get_or c.args.order.now c.loop-node.node-index 0) (slice_get-get_or c.args.order.now c.loop-node.node-index 0 c.loop-node-test.true)

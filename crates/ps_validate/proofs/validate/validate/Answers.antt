@@ -1,13 +1,14 @@
-use Rattle.std.proofs.Common.{◌≤◌, length, arith, subst, sym, ◌∙◌}
+use Rattle.std.proofs.Common.{◌≤◌, length, arith, subst, sym, ◌∙◌, ap}
 use Rattle.ps_plan.specs.Graph.{here}
 use Rattle.ps_survey.specs.Flaws.{plan_of}
-use Rattle.ps_survey.specs.Surveys.{IsSurvey}
-use Rattle.ps_validate.proofs.Planning.{cache-error, flaw-error, survey-of}
+use Rattle.valid_plans.specs.Surveys.{IsSurvey}
+use Rattle.ps_validate.proofs.Planning.{cache-error, flaw-error, holds-valid, survey-of}
 use Rattle.ps_validate.proofs.Typed.{passed-on}
 use Rattle.ps_validate.proofs.Weights.{order-small}
 use Rattle.ps_validate.proofs.validate.validate.Goals as goal
 use Rattle.ps_validate.specs.Fit.{HaveOneInput}
-use Rattle.ps_validate.specs.Valid.{IsPlanError}
+use Rattle.ps_validate.specs.Errors.{IsPlanError}
+use Rattle.valid_plans.specs.Valid.{ValidNodes}
 
 pub returns-in_err-survey-clause-refused : goal.returns-in_err-survey-clause-refused
 returns-in_err-survey-clause-refused g c =
@@ -53,3 +54,14 @@ returns-clause-steps g c =
     let caches = c.check_caches.ensures.steps in
     let nodes = c.node_schemas.ensures.steps in
     omega arith
+
+pub returns-clause-root : goal.returns-clause-root
+returns-clause-root g c = ap (λ (v : ValidNodes). v.root) c.new.ensures
+
+pub returns-clause-nodes : goal.returns-clause-nodes
+returns-clause-nodes g c = ap (λ (v : ValidNodes). v.nodes) c.new.ensures
+
+pub returns-clause-valid : goal.returns-clause-valid
+returns-clause-valid g c =
+    let survey = (subst (λ ns. IsSurvey (plan_of c.args.root c.args.ir.items c.args.exprs.now.items) ns) (sym c.into_order.ensures) (survey-of (plan_of c.args.root c.args.ir.items c.args.exprs.now.items) c.in_ok-survey.survey c.in_ok-survey.ensures.reached c.in_ok-survey.ensures.once c.in_ok-survey.ensures.inputs_first c.in_ok-survey.ensures.complete c.in_ok-survey.ensures.in_range c.in_ok-survey.ensures.no_circle c.in_ok-survey.ensures.depth c.in_ok-survey.ensures.occurrences)) in
+    holds-valid (g.F.Functions.told c.args.functions.now) c.args.root c.args.ir.items c.args.exprs.now.items c.in_ok-schemas.schemas c.into_order.result.items c.new.result c.new.ensures c.in_ok-schemas.ensures.valid c.in_ok-schemas.ensures.schemas c.in_ok-schemas.ensures.typed survey

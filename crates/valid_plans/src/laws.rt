@@ -11,8 +11,8 @@ ghost use Rattle.ps_plan.specs.Entries.{entry_inputs, entry_step};
 ghost use Rattle.ps_plan.specs.declared.ir.IR.{IR};
 ghost use Rattle.ps_walks.specs.Accepted.{schemas_at};
 ghost use Rattle.ps_walks.specs.Fit.{IsFit, plan_schemas};
-ghost use Rattle.ps_validate.specs.Known.{IsKnown, schema_in};
-ghost use Rattle.ps_validate.specs.Valid.{IsValidWith, ValidNodes, plan_with};
+ghost use Rattle.valid_plans.specs.Known.{IsKnown, schema_in};
+ghost use Rattle.valid_plans.specs.Valid.{IsValidWith, ValidNodes, plan_with};
 
 /// A valid plan stays valid where entries are added to the arena of expressions, and its nodes' trees and schemas stay.
 pub fn valid_plans_stay_valid()

@@ -1,4 +1,4 @@
-use Rattle.ps_validate.proofs.table.Schemas.new.Given as goal
+use Rattle.valid_plans.proofs.table.Schemas.new.Given as goal
 use Rattle.std.proofs.Common.{◌≡◌, None, replicate}
 
 abbrev pub invariant-loop : goal.invariant-loop

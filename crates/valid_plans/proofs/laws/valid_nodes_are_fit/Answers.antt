@@ -1,7 +1,7 @@
 use Rattle.ps_plan.proofs.ValidPlans.{reached-complete}
 use Rattle.ps_walks.proofs.Fits.{step-fits}
-use Rattle.ps_validate.proofs.laws.valid_nodes_are_fit.Goals as goal
-use Rattle.ps_validate.specs.Valid.{plan_with}
+use Rattle.valid_plans.proofs.laws.valid_nodes_are_fit.Goals as goal
+use Rattle.valid_plans.specs.Valid.{plan_with}
 
 pub returns-clause-complete : goal.returns-clause-complete
 returns-clause-complete c = λ F v exprs n h reached. reached-complete F (plan_with v exprs) h.valid n reached

@@ -22,11 +22,11 @@ use Rattle.ps_plan.proofs.Complete.{there}
 use Rattle.ps_meaning.proofs.Containing.{contains-first, contains-later}
 use Rattle.ps_plan.proofs.ReachedSteps.{path-then}
 use Rattle.ps_plan.proofs.ValidPlans.{in-range, no-circle, path-join, reached-complete}
-use Rattle.ps_survey.proofs.Lists.{slice_get-left}
 use Rattle.ps_walks.specs.Accepted.{schemas_at}
 use Rattle.ps_walks.specs.Fit.{HasSchemas, plan_schemas}
-use Rattle.ps_validate.proofs.Growing.{entry_step-kept, plan-kept}
-use Rattle.ps_validate.specs.Valid.{HaveSchemas, IsValidWith, ValidNodes, plan_with}
+use Rattle.valid_plans.proofs.Growing.{entry_step-kept, plan-kept, slice_get-left}
+use Rattle.valid_plans.specs.Surveys.{IsSurvey, IsWithinLimits}
+use Rattle.valid_plans.specs.Valid.{HaveSchemas, IsValidWith, ValidNodes, plan_with}
 
 module _ (F : Functions) (v : ValidNodes) (exprs more : List AExpr) (valid : IsValid F (plan_with v exprs)) where
   abbrev old : Plan
@@ -128,5 +128,22 @@ module _ (F : Functions) (v : ValidNodes) (exprs more : List AExpr) (valid : IsV
       let inputs : schemas_at (plan_schemas F new) (entry_inputs e) ≡ schemas_at (plan_schemas F old) (entry_inputs e) = inputs-stay (entry_inputs e) (λ m c. path-then reached (subst (λ (o : Option IR). Contains (named_by entry_inputs o) m) (sym is) c)) in
       ap (λ s. output_schema F s (schemas_at (plan_schemas F new) (entry_inputs e))) (step-stays n e reached is) ∙ ap (output_schema F (entry_step (tree_at exprs) e)) inputs ∙ typed n e reached is ∙ ap (λ t. Some (tree_schema F t)) (sym (tree-stays n reached))
 
+  pub stays-surveyed : IsSurvey old v.order → IsSurvey new v.order
+  stays-surveyed survey = record {
+    all = survey.all;
+    reached = survey.reached;
+    once = survey.once;
+    inputs_first = survey.inputs_first;
+    complete = λ n reached. reached-complete F new stays-valid n reached;
+    no_circle = λ n reached. no-circle F new stays-valid n reached;
+    in_range = λ n reached. in-range F new stays-valid n reached;
+    limits = λ n reached. subst (λ t. IsWithinLimits (depth t) (occurrences t)) (sym (tree-stays n reached)) (survey.limits n reached);
+  }
+
 pub stays-with : (F : Functions) (v : ValidNodes) (exprs more : List AExpr) → IsValidWith F v exprs → IsValidWith F v (exprs ++ more)
-stays-with F v exprs more h = record { valid = stays-valid F v exprs more h.valid; schemas = stays-known F v exprs more h.valid h.schemas; typed = stays-typed F v exprs more h.valid h.typed }
+stays-with F v exprs more h = record {
+  valid = stays-valid F v exprs more h.valid;
+  schemas = stays-known F v exprs more h.valid h.schemas;
+  typed = stays-typed F v exprs more h.valid h.typed;
+  survey = stays-surveyed F v exprs more h.valid h.survey;
+}

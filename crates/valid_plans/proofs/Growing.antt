@@ -1,5 +1,5 @@
 -- Trees stay where entries are added to the arena of expressions.
-use Rattle.std.proofs.Common.{◌≡◌, ℕ, zero, suc, ◌+◌, List, [], ◌∷◌, ◌++◌, length, slice_get, Option, Some, None, refl, sym, subst, ◌∙◌, ap, arith, length-append}
+use Rattle.std.proofs.Common.{◌≡◌, ℕ, zero, suc, ◌+◌, ◌<◌, List, [], ◌∷◌, ◌++◌, length, slice_get, Option, Some, None, refl, sym, subst, ◌∙◌, ap, arith, length-append}
 use Rattle.std.specs.List.{AllByRecursion}
 use Rattle.std.proofs.lemmas.Option.{slice_get_within}
 use Rattle.pu_base.specs.declared.arena.Node.{Node}
@@ -16,8 +16,21 @@ use Rattle.ps_plan.specs.Entries.{entry_inputs, entry_step}
 use Rattle.ps_meaning.specs.declared.options.ExprIR.{ExprIR}
 use Rattle.ps_plan.specs.declared.ir.IR.{IR}
 use Rattle.ps_plan.specs.declared.ir.IR.TheVariants as entry
-use Rattle.ps_survey.proofs.Lists.{slice_get-left}
-use Rattle.ps_validate.proofs.Arms.{left-complete, right-complete}
+
+-- an element of a list stays where it is when more come after it
+pub slice_get-left : {X : Type 0} (xs ys : List X) (i : ℕ) → i < length xs → slice_get (xs ++ ys) i ≡ slice_get xs i
+slice_get-left [] ys i h = absurd (omega (arith, h))
+slice_get-left (x ∷ xs) ys zero h = refl
+slice_get-left (x ∷ xs) ys (suc i) h = slice_get-left xs ys i (omega (arith, h))
+
+-- where the trees of two lists are complete, those of each are
+pub left-complete : (xs ys : List Tree) → AllByRecursion IsComplete (xs ++ ys) → AllByRecursion IsComplete xs
+left-complete [] ys h = tt
+left-complete (x ∷ xs) ys h = (h.0, left-complete xs ys h.1)
+
+pub right-complete : (xs ys : List Tree) → AllByRecursion IsComplete (xs ++ ys) → AllByRecursion IsComplete ys
+right-complete [] ys h = h
+right-complete (x ∷ xs) ys h = right-complete xs ys h.1
 
 -- f gives the trees that g gives, where these are complete
 module _ (f g : Node → Tree) (same : (n : Node) → IsComplete (g n) → f n ≡ g n) where

@@ -6,7 +6,7 @@ ghost use Rattle.ps_frame.specs.Trees.{IsComplete, tree_at};
 ghost use Rattle.ps_meaning.specs.PlanTrees.{all_sizes};
 ghost use Rattle.ps_meaning.specs.Schemas.{fields_of, names_of};
 ghost use Rattle.ps_meaning.specs.Steps.{exprs_of, name_in, named_trees};
-ghost use Rattle.ps_validate.specs.Fields.{IsFieldError, IsPushError, not_scalar};
+ghost use Rattle.valid_plans.specs.Fields.{IsFieldError, IsPushError, not_scalar};
 
 use ps_frame::error::FrameError;
 use ps_frame::expr::AExpr;

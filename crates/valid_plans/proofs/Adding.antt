@@ -26,7 +26,7 @@ use Rattle.ps_meaning.specs.Steps.{Name, exprs_of, name_in, named_trees}
 use Rattle.ps_meaning.specs.declared.options.ExprIR.{ExprIR}
 use Rattle.ps_typing.proofs.Parts.{AreAmong, among-left, among-right, among-then, carried}
 use Rattle.ps_typing.specs.Refused.{IsErrorAmong}
-use Rattle.ps_validate.specs.Fields.{IsFieldError, IsPushError, all_parts, not_scalar}
+use Rattle.valid_plans.specs.Fields.{IsFieldError, IsPushError, all_parts, not_scalar}
 
 -- the first expression's field goes to the end of those before
 pub fields-next : (p : Fields) (n : Name) (k : DataType) (r : Option Fields) → option_map (λ fs. p ++ fs) (both_of (λ (j : DataType) (fs : Fields). (n, j) ∷ fs) (Some k) r) ≡ option_map (λ fs. (p ++ (n, k) ∷ []) ++ fs) r

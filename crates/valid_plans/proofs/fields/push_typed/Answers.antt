@@ -2,8 +2,8 @@ use Rattle.std.proofs.Common.{◌≡◌, ◌∷◌, ◌++◌, [], false, subst, 
 use Rattle.ps_frame.specs.Frames.{has_name}
 use Rattle.ps_frame.specs.Trees.{tree_at}
 use Rattle.ps_meaning.specs.Steps.{Name}
-use Rattle.ps_validate.proofs.Adding.{next-left, next-steps, passed-error, passed-push}
-use Rattle.ps_validate.proofs.fields.push_typed.Goals as goal
+use Rattle.valid_plans.proofs.Adding.{next-left, next-steps, passed-error, passed-push}
+use Rattle.valid_plans.proofs.fields.push_typed.Goals as goal
 
 pub returns-in_err-typed-clause-refused : goal.returns-in_err-typed-clause-refused
 returns-in_err-typed-clause-refused g c =

@@ -1,5 +1,5 @@
-use Rattle.ps_validate.proofs.Staying.{stays-with, tree-stays}
-use Rattle.ps_validate.proofs.laws.valid_plans_stay_valid.Goals as goal
+use Rattle.valid_plans.proofs.Staying.{stays-with, tree-stays}
+use Rattle.valid_plans.proofs.laws.valid_plans_stay_valid.Goals as goal
 
 pub returns-clause-valid : goal.returns-clause-valid
 returns-clause-valid c = λ F v exprs more h. stays-with F v exprs more h

@@ -1,6 +1,6 @@
 // The schemas of the nodes that are done.
 ghost use Rattle.std.specs.Prelude.{◌≡◌, ◌<◌, IfOk, None, OnErr, Err, Some, length, replicate, slice_set};
-ghost use Rattle.ps_validate.specs.Known.{IsKnown, schema_in};
+ghost use Rattle.valid_plans.specs.Known.{IsKnown, schema_in};
 
 use ps_frame::refusal::{PolarsError, PolarsResult};
 use ps_frame::schema::Schema;

@@ -1,0 +1,4 @@
+pub mod Fields
+pub mod Known
+pub mod Surveys
+pub mod Valid
