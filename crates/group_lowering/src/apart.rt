@@ -17,9 +17,9 @@ use ps_frame::expr::{AExpr, FunctionExpr, entry};
 use ps_frame::refusal::{PolarsError, PolarsResult};
 use ps_fresh::lowering::Lowering;
 use ps_meaning::options::ExprIR;
-use ps_validate::fields::name_of;
 use pu_base::{Arena, Node};
 use std::alloc::Global;
+use valid_plans::fields::name_of;
 
 /// The reductions of several aggregates, and these over the columns of the reductions.
 #[derive(Drop)]

@@ -17,7 +17,6 @@ ghost use Rattle.pu_base.specs.declared.arena.Node.{Node as ANode};
 use crate::groups::build_group_by_stream;
 use crate::kept::{kept_values, other_names};
 use crate::named::{joined, names_of_stream, own_columns};
-use crate::slices::cut;
 use lowering_parts::names::{add_column, add_expr, copied, fresh, under_name};
 use lowering_parts::nodes::{columns_of, over_same_columns};
 use ps_frame::expr::{AExpr, LiteralValue, Operator};
@@ -27,6 +26,7 @@ use ps_meaning::map::MapKind;
 use ps_meaning::options::{DistinctOptions, ExprIR, GroupbyOptions, UniqueKeepStrategy};
 use ps_phys::phys::{PhysNodeKind, PhysStream};
 use pu_base::{Arena, Node, PlSmallStr};
+use slice_lowering::slices::cut;
 use std::alloc::Global;
 
 /// The stream of a distinct: a map over the whole input, which applies the slice itself, where the last rows are kept in

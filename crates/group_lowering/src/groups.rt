@@ -17,7 +17,6 @@ ghost use Rattle.pu_base.specs.declared.arena.Node.{Node as ANode};
 use crate::apart::{Split, split_all};
 use crate::conditions::can_stream;
 use crate::named::{copied_exprs, joined, names_of_exprs, names_of_stream, own_columns};
-use crate::slices::cut;
 use expr_lowering::exprs::{build_select_stream, lower_exprs};
 use lowering_parts::nodes::{insert, schema_of};
 use lowering_parts::schemas::selected_schema;
@@ -29,6 +28,7 @@ use ps_meaning::map::MapKind;
 use ps_meaning::options::{ExprIR, GroupbyOptions};
 use ps_phys::phys::{PhysNodeKind, PhysStream};
 use pu_base::Arena;
+use slice_lowering::slices::cut;
 use std::alloc::Global;
 
 /// The stream of a group-by: by a streaming node with a select and the slice above it, where the order of its groups is

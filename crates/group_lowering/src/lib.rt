@@ -1,4 +1,4 @@
-// Group-bys, distincts and slices over streams become physical nodes: the rules of lowering, carried out in code.
+// Group-bys and distincts over streams become physical nodes: the rules of lowering, carried out in code.
 #![tactic(auto)]
 
 mod apart;
@@ -8,4 +8,3 @@ pub mod examples;
 pub mod groups;
 mod kept;
 mod named;
-pub mod slices;

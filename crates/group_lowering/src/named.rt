@@ -20,9 +20,9 @@ use ps_frame::schema::Schema;
 use ps_fresh::lowering::Lowering;
 use ps_meaning::options::ExprIR;
 use ps_phys::phys::PhysStream;
-use ps_validate::fields::name_of;
 use pu_base::{Arena, PlSmallStr};
 use std::alloc::Global;
+use valid_plans::fields::name_of;
 
 /// An equal copy of an expression under its name.
 ///

@@ -28,9 +28,9 @@ use ps_fresh::expr_cache::is_elementwise;
 use ps_fresh::lowering::Lowering;
 use ps_meaning::options::ExprIR;
 use ps_phys::phys::{PhysNodeKind, PhysStream};
-use ps_validate::fields::name_of;
 use pu_base::{Arena, Node, PlSmallStr};
 use std::alloc::Global;
+use valid_plans::fields::name_of;
 
 /// The columns of a stream and named expressions beside them, each in the place of the column of its name, else behind
 /// the others; the schema is that of what comes out. The names of the expressions differ.

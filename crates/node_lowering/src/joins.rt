@@ -15,7 +15,6 @@ ghost use Rattle.pu_base.specs.declared.arena.Node.{Node as ANode};
 use crate::copies::equal;
 use crate::parts::node_of;
 use crate::together::{before_columns, nodes_of, under_name_of};
-use group_lowering::slices::cut;
 use ps_frame::expr::AExpr;
 use ps_frame::items::Items;
 use ps_frame::refusal::{PolarsError, PolarsResult};
@@ -24,6 +23,7 @@ use ps_fresh::lowering::Lowering;
 use ps_meaning::options::{ExprIR, JoinArgs, JoinType};
 use ps_phys::phys::{PhysNodeKind, PhysStream};
 use pu_base::{Arena, Node};
+use slice_lowering::slices::cut;
 use std::alloc::Global;
 
 /// A join of two streams; the schema is that of what comes out. Inner, left, right and full joins go by keys, and have

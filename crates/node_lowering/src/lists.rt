@@ -9,12 +9,12 @@ ghost use Rattle.lowering_parts.specs.Gathered.{Begins, made_of, state_of};
 ghost use Rattle.pu_base.specs.declared.arena.Node.{Node as ANode};
 
 use crate::parts::node_of;
-use group_lowering::slices::cut;
 use ps_frame::items::Items;
 use ps_frame::refusal::PolarsResult;
 use ps_frame::schema::Schema;
 use ps_fresh::lowering::Lowering;
 use ps_phys::phys::{PhysNodeKind, PhysStream};
+use slice_lowering::slices::cut;
 use std::alloc::Global;
 
 /// A union of streams of this schema in their order, and its slice above it.

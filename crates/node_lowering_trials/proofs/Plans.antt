@@ -16,9 +16,9 @@ use Rattle.ps_plan.specs.Entries.{entry_inputs}
 use Rattle.ps_plan.specs.Graph.{named_by}
 use Rattle.ps_plan.specs.Plans.{tree_of}
 use Rattle.ps_plan.specs.declared.ir.IR.{IR}
-use Rattle.ps_validate.proofs.Staying.{stays-with}
-use Rattle.ps_validate.specs.Known.{IsKnown}
-use Rattle.ps_validate.specs.Valid.{IsValidWith, ValidNodes, plan_with}
+use Rattle.valid_plans.proofs.Staying.{stays-with}
+use Rattle.valid_plans.specs.Known.{IsKnown}
+use Rattle.valid_plans.specs.Valid.{IsValidWith, ValidNodes, plan_with}
 use Rattle.lowering_parts.specs.Gathered.{Begins}
 use Rattle.node_lowering_trials.specs.Going.{HasWholeExprs, IsReached, Stands}
 

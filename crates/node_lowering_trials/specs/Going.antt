@@ -11,7 +11,7 @@ use Rattle.ps_meaning.specs.Steps.{step_exprs}
 use Rattle.ps_plan.specs.Entries.{entry_inputs, entry_step}
 use Rattle.ps_plan.specs.Graph.{Path, named_by}
 use Rattle.ps_plan.specs.declared.ir.IR.{IR}
-use Rattle.ps_validate.specs.Valid.{IsValidWith, ValidNodes}
+use Rattle.valid_plans.specs.Valid.{IsValidWith, ValidNodes}
 
 -- the plan is valid with the expressions of this arena, and what is known of them is right
 pub record Stands (v : ValidNodes) (exprs : List AExpr) (low : Lowering) : Type 0 where

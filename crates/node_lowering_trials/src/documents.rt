@@ -1,18 +1,19 @@
 // Valid plans, from text.
 ghost use Rattle.std.specs.Prelude.{◌≡◌, ◌<◌, IfOk};
 ghost use Rattle.ps_frame.specs.Functions.{Functions};
-ghost use Rattle.ps_validate.specs.Valid.{IsValidWith};
+ghost use Rattle.valid_plans.specs.Valid.{IsValidWith};
 
 use crate::functions::Two;
 use ps_document::document::{Document, read_document};
 use ps_frame::expr::AExpr;
 use ps_plan::ir::IR;
-use ps_validate::validate::{Valid, validate};
+use ps_validate::validate::validate;
 use pu_base::{Arena, Node, Steps};
 use std::alloc::Global;
 use std::marker::Brand;
 use std::sync::ledger::{Blank, Ledger};
 use std::test::Fail;
+use valid_plans::valid::Valid;
 
 /// The text with `__POLARS_STMP_` for each `@`.
 pub fn spelled(alloc: Global, text: &str) -> Result<String, Fail> {

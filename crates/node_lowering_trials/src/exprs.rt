@@ -2,9 +2,9 @@
 
 use ps_frame::expr::{AExpr, IRAggExpr, LiteralValue};
 use ps_meaning::options::ExprIR;
-use ps_validate::fields::name_of;
 use pu_base::{Arena, Node, PlSmallStr};
 use std::test::Fail;
+use valid_plans::fields::name_of;
 
 fn push_literal(value: &LiteralValue, text: &mut String) -> Result<(), Fail> {
     match value {

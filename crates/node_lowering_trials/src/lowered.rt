@@ -3,7 +3,7 @@ ghost use Rattle.std.specs.Prelude.{OnOk, IfOk};
 ghost use Rattle.std.specs.List.{AllByRecursion};
 ghost use Rattle.ps_frame.specs.Functions.{Functions};
 ghost use Rattle.ps_fresh.specs.Known.{Remembers};
-ghost use Rattle.ps_validate.specs.Valid.{IsValidWith};
+ghost use Rattle.valid_plans.specs.Valid.{IsValidWith};
 ghost use Rattle.node_lowering_trials.specs.Going.{IsReached, Stands};
 
 use crate::documents::{document, valid_plan};
@@ -16,10 +16,10 @@ use ps_fresh::expr_cache::ExprCache;
 use ps_fresh::lowering::Lowering;
 use ps_fresh::name_source::NameSource;
 use ps_phys::phys::PhysStream;
-use ps_validate::validate::Valid;
 use pu_base::{Arena, Node};
 use std::alloc::Global;
 use std::test::Fail;
+use valid_plans::valid::Valid;
 
 // Far above the depth of each plan of a trial.
 const DEPTH: usize = 16;

@@ -11,7 +11,6 @@ use crate::functions::Two;
 use expr_lowering::exprs::build_select_stream;
 use group_lowering::distincts::build_distinct_stream;
 use group_lowering::groups::build_group_by_stream;
-use group_lowering::slices::build_slice_stream;
 use node_lowering::filters::filter_stream;
 use node_lowering::further::further_columns_stream;
 use node_lowering::joins::join_stream;
@@ -30,6 +29,7 @@ use ps_meaning::options::{DistinctOptions, ExprIR, FunctionIR, GroupbyOptions, J
 use ps_phys::phys::PhysStream;
 use ps_plan::ir::IR;
 use pu_base::Arena;
+use slice_lowering::slices::build_slice_stream;
 use std::alloc::Global;
 use std::test::Fail;
 

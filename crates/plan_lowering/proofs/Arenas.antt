@@ -17,9 +17,9 @@ use Rattle.ps_plan.specs.Entries.{entry_inputs, entry_step}
 use Rattle.ps_plan.specs.Graph.{Reached, named_by}
 use Rattle.ps_plan.specs.Plans.{IsPlan, plan_trees_of, tree_of}
 use Rattle.ps_plan.specs.declared.ir.IR.{IR}
-use Rattle.ps_validate.proofs.Growing.{step-same}
-use Rattle.ps_validate.proofs.Staying.{stays-with, tree-stays}
-use Rattle.ps_validate.specs.Valid.{IsValidWith, ValidNodes, plan_with}
+use Rattle.valid_plans.proofs.Growing.{step-same}
+use Rattle.valid_plans.proofs.Staying.{stays-with, tree-stays}
+use Rattle.valid_plans.specs.Valid.{IsValidWith, ValidNodes, plan_with}
 use Rattle.ps_walks.proofs.Fits.{step-fits}
 use Rattle.ps_walks.specs.Accepted.{schemas_at}
 use Rattle.ps_walks.specs.Fit.{IsFit, plan_schemas}

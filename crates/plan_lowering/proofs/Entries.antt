@@ -14,8 +14,8 @@ use Rattle.ps_plan.specs.Entries.{entry_inputs, entry_step}
 use Rattle.ps_plan.specs.Graph.{Reached}
 use Rattle.ps_plan.specs.Plans.{IsPlan, node_tree, plan_at, plan_trees_of, tree_of}
 use Rattle.ps_plan.specs.declared.ir.IR.{IR}
-use Rattle.ps_validate.specs.Known.{IsKnown, schema_in}
-use Rattle.ps_validate.specs.Valid.{IsValidWith, ValidNodes, plan_with}
+use Rattle.valid_plans.specs.Known.{IsKnown, schema_in}
+use Rattle.valid_plans.specs.Valid.{IsValidWith, ValidNodes, plan_with}
 use Rattle.plan_lowering.specs.Lowered.{cache_in}
 use Rattle.plan_lowering.proofs.Arenas.{inputs_reached, is_plan}
 use Rattle.plan_lowering.proofs.Caches.{cache_inputs, cache_tree}

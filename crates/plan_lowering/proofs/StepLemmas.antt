@@ -30,7 +30,7 @@ use Rattle.ps_fresh.specs.declared.lowering.Lowering.{Lowering}
 use Rattle.lowering_parts.specs.Gathered.{Begins, Makes, made_of, state_of}
 use Rattle.node_lowering.proofs.AnswerLemmas.{goes_with_nodes}
 use Rattle.node_lowering.proofs.FurtherLemmas.{exprs_back}
-use Rattle.ps_validate.proofs.Growing.{step-same}
+use Rattle.valid_plans.proofs.Growing.{step-same}
 
 -- an entry that is this one, over streams that the rule reads as those that are there
 module _ (F : Functions) (schema : Fields) (inputs given : List Stream) (e x : IR) (is : e ≡ x) (a : List AExpr) (l : Lowering) where

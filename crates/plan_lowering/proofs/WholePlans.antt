@@ -17,7 +17,7 @@ use Rattle.ps_phys.specs.declared.phys.PhysNode.{PhysNode}
 use Rattle.ps_phys.specs.declared.phys.PhysStream.{PhysStream}
 use Rattle.ps_plan.specs.Plans.{tree_of}
 use Rattle.ps_rules.specs.Names.{Knows}
-use Rattle.ps_validate.specs.Valid.{IsValidWith, ValidNodes, plan_with}
+use Rattle.valid_plans.specs.Valid.{IsValidWith, ValidNodes, plan_with}
 use Rattle.physical_plans.specs.PhysicalPlans.{IsPhysicalPlan}
 use Rattle.plan_rules.specs.Plans.{LoweredPlan, lower_plan, lowering_of, nothing_yet}
 use Rattle.lowering_parts.specs.Gathered.{Later}

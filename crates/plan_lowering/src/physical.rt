@@ -10,7 +10,7 @@ ghost use Rattle.ps_fresh.specs.Known.{Remembers};
 ghost use Rattle.ps_multiplexers.specs.Multiplexers.{with_multiplexers};
 ghost use Rattle.ps_phys.specs.Shown.{ReadsWhatIsThere, inputs_of, nodes_of, shown};
 ghost use Rattle.ps_rules.specs.Names.{Knows};
-ghost use Rattle.ps_validate.specs.Valid.{IsValidWith, plan_with};
+ghost use Rattle.valid_plans.specs.Valid.{IsValidWith, plan_with};
 ghost use Rattle.physical_plans.specs.PhysicalPlans.{IsPhysicalPlan};
 ghost use Rattle.lowering_parts.specs.Gathered.{Begins, Later};
 ghost use Rattle.plan_lowering.specs.There.{AreFirstPorts, IsReadOnce, ReadsFirst};
@@ -27,10 +27,10 @@ use ps_fresh::name_source::NameSource;
 use ps_multiplexers::laws::no_stream_is_taken_twice;
 use ps_multiplexers::multiplexers::insert_multiplexers;
 use ps_phys::phys::{PhysNode, PhysNodeKey, PhysNodeKind};
-use ps_validate::validate::Valid;
 use pu_base::Arena;
 use std::alloc::Global;
 use std::collections::BTreeMap;
+use valid_plans::valid::Valid;
 
 /// The physical nodes of a valid plan, and the key of its root: the nodes that the root reaches are those that the rules
 /// of lowering give, and no stream has two readers among them. Of the functions it asks whether one streams, and calls

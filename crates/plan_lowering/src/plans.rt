@@ -13,7 +13,7 @@ ghost use Rattle.ps_phys.specs.Shown.{streams_of};
 ghost use Rattle.ps_plan.specs.Entries.{entry_step};
 ghost use Rattle.ps_plan.specs.Graph.{Reached};
 ghost use Rattle.ps_plan.specs.Plans.{plan_at, plan_trees_of, tree_of};
-ghost use Rattle.ps_validate.specs.Valid.{IsValidWith, plan_with};
+ghost use Rattle.valid_plans.specs.Valid.{IsValidWith, plan_with};
 ghost use Rattle.plan_rules.specs.Nodes.{step_stream as stream_by_rule};
 ghost use Rattle.plan_rules.specs.Plans.{lower_plan, lower_plans};
 ghost use Rattle.lowering_parts.specs.Gathered.{GoesOn, Makes};
@@ -29,10 +29,10 @@ use ps_fresh::lowering::Lowering;
 use ps_phys::phys::PhysStream;
 use ps_plan::ir::IR;
 use ps_plan::walk::entry;
-use ps_validate::validate::Valid;
 use pu_base::{Arena, Node};
 use std::alloc::Global;
 use std::collections::BTreeMap;
+use valid_plans::valid::Valid;
 
 /// The stream of a node that the root of a valid plan leads to: what is below it is lowered first. A cache id that has a
 /// stream already keeps it, and one that has none gets that of its input. Of the functions it asks whether one streams,

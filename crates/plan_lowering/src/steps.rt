@@ -22,7 +22,6 @@ ghost use Rattle.pu_base.specs.declared.arena.Node.{Node as ANode};
 use expr_lowering::exprs::build_select_stream;
 use group_lowering::distincts::build_distinct_stream;
 use group_lowering::groups::build_group_by_stream;
-use group_lowering::slices::build_slice_stream;
 use keyed_slots::Key;
 use node_lowering::filters::filter_stream;
 use node_lowering::further::further_columns_stream;
@@ -42,6 +41,7 @@ use ps_meaning::options::{DistinctOptions, ExprIR, FunctionIR, GroupbyOptions};
 use ps_phys::phys::{PhysNodeKey, PhysStream};
 use ps_plan::ir::IR;
 use pu_base::Arena;
+use slice_lowering::slices::build_slice_stream;
 use std::alloc::Global;
 
 /// The stream of a node's step over the streams of its inputs; the schema is that of what comes out. Of the functions

@@ -1,7 +1,7 @@
 use Rattle.std.proofs.Common.{subst, sym}
 use Rattle.pu_base.specs.declared.arena.Node.{Node}
 use Rattle.ps_plan.specs.Graph.{Reached, here}
-use Rattle.ps_validate.specs.Valid.{plan_with}
+use Rattle.valid_plans.specs.Valid.{plan_with}
 use Rattle.plan_lowering.proofs.WholePlans.{is_physical}
 use Rattle.plan_lowering.proofs.physical.build_physical_plan.Goals as goal
 

@@ -4,7 +4,7 @@ use Rattle.ps_meaning.specs.PlanTrees.{plan_size, plans_size}
 use Rattle.ps_plan.specs.Entries.{entry_inputs}
 use Rattle.ps_plan.specs.Graph.{Reached}
 use Rattle.ps_plan.specs.Plans.{plan_at, plan_trees_of}
-use Rattle.ps_validate.specs.Valid.{plan_with}
+use Rattle.valid_plans.specs.Valid.{plan_with}
 use Rattle.plan_rules.specs.Plans.{lower_plans}
 use Rattle.lowering_parts.proofs.Going.{goes_nowhere, goes_then}
 use Rattle.plan_lowering.specs.Lowered.{LowerAs}

@@ -6,7 +6,7 @@ use Rattle.ps_phys.specs.Shown.{stream_of, streams_of}
 use Rattle.ps_plan.specs.Entries.{entry_step}
 use Rattle.ps_plan.specs.declared.ir.IR.{IR}
 use Rattle.ps_plan.specs.declared.ir.IR.TheVariants as entry
-use Rattle.ps_validate.proofs.Arms.{left-complete, right-complete}
+use Rattle.valid_plans.proofs.Growing.{left-complete, right-complete}
 use Rattle.lowering_parts.proofs.Going.{begins_same, goes_nowhere}
 use Rattle.node_lowering.proofs.AnswerLemmas.{goes_with_nodes}
 use Rattle.plan_lowering.proofs.StepLemmas.{by_nodes, by_rule, first_is, keys_whole, none_left_out, of_entry, over_both, over_first, over_function, second_is}
