@@ -1,7 +1,7 @@
 // Answers queries: a document of tables and a plan in, the table out.
 #![tactic(auto)]
 
-use ps_exec::gate::NoGate;
+use plain_queries::gate::NoGate;
 use std::alloc::{AllocError, Global};
 use std::env::{self, Env};
 use std::io::ErrorKind;

@@ -11,8 +11,8 @@ use Rattle.ps_frame.specs.declared.value.DataFault.TheVariants as fault
 use Rattle.ps_meaning.specs.Errors.{fault_error, refusal_error}
 use Rattle.ps_plan.specs.Plans.{Plan}
 use Rattle.ps_meaning.specs.StepRefusals.{Refusal, column_not_found, duplicate, invalid_plan, no_key, schema_mismatch, unsupported}
-use Rattle.ps_exec.specs.Queries.{IsQueryError}
-use Rattle.ps_validate.specs.Valid.{IsPlanError}
+use Rattle.plain_queries.specs.Queries.{IsQueryError}
+use Rattle.ps_validate.specs.Errors.{IsPlanError}
 use Rattle.query_document.specs.QueryDocuments.{Asked, IsQueryDocumentOf}
 use Rattle.text_plans.specs.QueryPlans.{first_unknown, query_tables, table_named}
 use Rattle.text_queries.specs.Grammar.{ReadsAs}

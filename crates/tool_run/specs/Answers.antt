@@ -1,7 +1,7 @@
 -- What answers a document, and why one has no answer.
 use Rattle.std.specs.Prelude.{◌≡◌, ◌⊎◌, ℕ, List, ◌++◌, codes, string_bytes, ⊤}
 use Rattle.ps_document.specs.Document.{IsJson}
-use Rattle.ps_exec.specs.Queries.{IsFault, IsQueryAnswer, IsRefusal}
+use Rattle.plain_queries.specs.Queries.{IsFault, IsQueryAnswer, IsRefusal}
 use Rattle.ps_frame.specs.Csv.{csv_text_of}
 use Rattle.ps_frame.specs.Functions.{Functions}
 use Rattle.ps_frame.specs.Lines.{refusal_line}

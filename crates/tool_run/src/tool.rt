@@ -16,7 +16,7 @@ use crate::reading::{MAX_DOCUMENT_BYTES, ReadError, read_source};
 use crate::sink::Sink;
 use crate::source::{Failed, Source};
 use crate::writing::write_whole;
-use ps_exec::gate::Gate;
+use plain_queries::gate::Gate;
 use ps_frame::functions::Functions;
 use std::alloc::Global;
 use std::sync::Wait;

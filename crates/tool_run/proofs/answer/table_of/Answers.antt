@@ -1,6 +1,6 @@
 use Rattle.std.proofs.Common.{◌∙◌, sym}
 use Rattle.std.proofs.lemmas.Result.{IfErr-at_err}
-use Rattle.ps_exec.specs.Queries.{IsQueryError}
+use Rattle.plain_queries.specs.Queries.{IsQueryError}
 use Rattle.ps_survey.specs.Flaws.{plan_of}
 use Rattle.tool_run.proofs.answer.table_of.Goals.{then-serial, else-serial}
 use Rattle.tool_run.proofs.answer.table_of.Goals as goal

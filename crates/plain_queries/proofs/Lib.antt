@@ -1,0 +1,3 @@
+mod Running
+mod Walking
+mod Wanting
