@@ -29,7 +29,7 @@ use std::alloc::Global;
 /// Where the input's node is there, its columns' names are known and differ, and each expression has a kind over them:
 /// whatever table of its schema the input means, the answered expressions over the stream end as the asked ones over
 /// the input. Each cause of theirs, and of each node that was made, breaks the select of the asked ones there; and they
-/// are large only where that select or the input is.
+/// are large only where that select or the input is. The shape stays sound but for the readers of its nodes.
 ///
 /// Makes at most as many nodes as `inserts_for` says. What stood in the arena and in the lowering stands after every answer.
 /// Fails only for want of memory; nodes, names and expressions may then have been added.
@@ -61,7 +61,8 @@ pub fn lower_exprs(
 ///
 /// Where the input's node is there, its columns' names are known and differ, and each expression has a kind over them:
 /// whatever table of its schema the input means, the stream ends as the select over the input. Each cause of it, and of
-/// each node that was made, breaks the select there; and each node is large only where the select or the input is.
+/// each node that was made, breaks the select there; and each node is large only where the select or the input is. The
+/// shape stays sound but for the readers of its nodes.
 ///
 /// Makes at most as many nodes as `inserts_for` says. What stood in the arena and in the lowering stands after every answer.
 /// Fails only for want of memory; nodes, names and expressions may then have been added.

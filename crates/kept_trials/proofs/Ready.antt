@@ -1,20 +1,21 @@
 -- What a valid plan says of a select over a scan: the call that lowers it is ready.
-use Rattle.std.proofs.Common.{◌≡◌, ◌≢◌, inr, ℕ, zero, suc, true, List, [], ◌∷◌, Some, None, refl, sym, ap, subst, ◌∙◌}
+use Rattle.std.proofs.Common.{◌≡◌, ◌≢◌, inl, inr, ℕ, zero, suc, true, List, [], ◌∷◌, ◌++◌, Some, None, refl, sym, ap, subst, ◌∙◌}
 use Rattle.std.specs.Prelude.{Contains, map, slice_get}
 use Rattle.std.specs.List.{AllByRecursion}
 use Rattle.std.proofs.lemmas.Option.{same_Some}
 use Rattle.pu_base.specs.declared.arena.Node.{Node}
 use Rattle.ps_frame.specs.Frames.{has_distinct_names}
 use Rattle.ps_frame.specs.Functions.{Functions}
-use Rattle.ps_frame.specs.Tables.{Frame}
+use Rattle.ps_frame.specs.Lawful.{FitsFrame}
+use Rattle.ps_frame.specs.Tables.{Fields, Frame}
 use Rattle.ps_frame.specs.Trees.{IsComplete, Tree, tree_at}
 use Rattle.ps_frame.specs.declared.expr.AExpr.{AExpr}
 use Rattle.ps_frame.specs.declared.expr.What.TheVariants as what
 use Rattle.ps_meaning.specs.Schemas.{fields_of, is_among, names_of, tree_schema}
-use Rattle.ps_meaning.specs.Shape.{PhysicalNode, in_memory_source}
-use Rattle.ps_meaning.specs.Sound.{have_all_kinds}
-use Rattle.ps_meaning.specs.StepRefusals.{unsupported}
-use Rattle.ps_meaning.specs.Steps.{Name, exprs_of, key_trees, named_trees, select}
+use Rattle.ps_meaning.specs.Shape.{PhysicalNode, Shape, in_memory_source}
+use Rattle.ps_meaning.specs.Sound.{BreaksNoRule, IsFitNode, IsSoundButForReaders, have_all_kinds}
+use Rattle.ps_meaning.specs.StepRefusals.{Refusal, TypingRefused, column_not_found, duplicate, schema_mismatch, unsupported}
+use Rattle.ps_meaning.specs.Steps.{Name, exprs_of, key_trees, named_trees, scan, select}
 use Rattle.ps_meaning.specs.declared.options.ExprIR.{ExprIR}
 use Rattle.ps_meaning.specs.declared.options.SinkType.{SinkType}
 use Rattle.ps_plan.specs.Entries.{entry_inputs}
@@ -27,7 +28,7 @@ use Rattle.ps_plan.proofs.ValidPlans.{reached-complete}
 use Rattle.ps_meaning.proofs.Containing.{contains-first}
 use Rattle.ps_rules.specs.Names.{IsKnown, Knows, Names, temporary}
 use Rattle.ps_rules.specs.Slots.{Made, State, Stream}
-use Rattle.ps_validate.specs.Valid.{IsValidWith, ValidNodes, plan_with}
+use Rattle.valid_plans.specs.Valid.{IsValidWith, ValidNodes, plan_with}
 use Rattle.ps_walks.proofs.Fits.{step-fits}
 use Rattle.ps_walks.specs.Fit.{IsFit, plan_schemas}
 use Rattle.ps_fresh.specs.InPlans.{IsNameUnder, scanned_names}
@@ -36,6 +37,7 @@ use Rattle.ps_shares.proofs.Members.{to_has}
 use Rattle.ps_bundles.proofs.Reading.{among_last, or_first, or_last}
 use Rattle.std.specs.Cmp.Lexicographic.{bytes_decides}
 use Rattle.std.specs.Str.{bytes_eq}
+use Rattle.lowering_names.proofs.Times.{distinct_once, once_never}
 use Rattle.lowering_laws.specs.Kept.{KeepsSelect}
 use Rattle.kept_trials.specs.Scanned.{ScansWhole, SelectsFrom, SelectsScan, source_made}
 
@@ -136,3 +138,33 @@ means F v exprs (G, valid) asked table h s origin none knows m at after stream m
 
 pub whole_of : (v : ValidNodes) (exprs : List AExpr) (some : (G : Functions) × IsValidWith G v exprs) (asked : List ExprIR) (table : Frame) → SelectsScan (plan_with v exprs) asked table → AllByRecursion IsComplete (key_trees (tree_at exprs) asked)
 whole_of v exprs (G, valid) asked table h = asked_whole G v exprs valid asked table h
+
+-- The source alone is a sound shape but for readers: its table fits, its names differ, and it has a column.
+source_rules : (F : Functions) (t : Frame) → has_distinct_names t.schema ≡ true → t.schema ≢ [] → BreaksNoRule F (scan t None) []
+source_rules F t distinct some = ((λ h. h), (λ h. h), (λ h. h), typing)
+  where
+    typing : (R : Refusal) → TypingRefused F (scan t None) [] R → ⊥
+    typing (column_not_found n) h = cc
+    typing (duplicate n) (inl h) = h
+    typing (duplicate n) (inr h) = once_never n (names_of t.schema) (distinct_once t.schema distinct n) h
+    typing schema_mismatch (inl h) = h
+    typing schema_mismatch (inr h) = cc
+    typing (unsupported what.NoColumns) h = some (same_Some t.schema [] h)
+    typing (unsupported _) h = h
+    typing _ h = h
+
+source_sound : (F : Functions) (t : Frame) (origin : ℕ) → FitsFrame t → has_distinct_names t.schema ≡ true → t.schema ≢ [] → IsSoundButForReaders F (record { kind = in_memory_source t; schema = t.schema; origin = origin; inputs = [] } ∷ [])
+source_sound F t origin fits distinct some zero p e =
+    let s : PhysicalNode = record { kind = in_memory_source t; schema = t.schema; origin = origin; inputs = [] } in
+    subst (IsFitNode F (s ∷ []) zero) (same_Some s p e) (record { earlier = tt; inputs = refl; schema = refl; not_empty = some; parameters = fits; kinds = refl; rules = source_rules F t distinct some })
+source_sound F t origin fits distinct some (suc n) p e = let w : None ≡ Some p = e in cc
+
+-- What the calls leave is sound but for readers, whatever functions there are.
+pub sound_of : (F : Functions) (v : ValidNodes) (exprs : List AExpr) (valid : (G : Functions) × IsValidWith G v exprs) (asked : List ExprIR) (table : Frame) → SelectsScan (plan_with v exprs) asked table → FitsFrame table → (s : State) (at origin : ℕ) → s.nodes ≡ []
+    → (after : State) (stream : Stream) → KeepsSelect F at (source_made s origin table).state after (source_made s origin table).stream (named_trees (tree_at exprs) asked) stream → IsSoundButForReaders F after.nodes
+sound_of F v exprs (G, valid) asked table h fits s at origin none after stream keeps =
+    let select_fits = fit G v exprs valid asked table h in
+    let scan_fits = step-fits G (plan_with v exprs) valid.valid valid.typed h.scan.0 h.from.reached (entry.DataFrameScan table None) h.table_is in
+    let distinct : has_distinct_names table.schema ≡ true = ap has_distinct_names (sym (schema_is G v exprs valid asked table h)) ∙ select_fits.typed.names.0 in
+    let some : table.schema ≢ [] = λ e. scan_fits.typed.rules (unsupported what.NoColumns) (ap (λ (s : Fields). Some s) e) in
+    (keeps.sound (λ n r. select_fits.typed.rules (duplicate n) (inr r))).whole (subst (λ (nodes : Shape). IsSoundButForReaders F (nodes ++ record { kind = in_memory_source table; schema = table.schema; origin = origin; inputs = [] } ∷ [])) (sym none) (source_sound F table origin fits distinct some))

@@ -4,10 +4,11 @@ ghost use Rattle.ps_frame.specs.Functions.{Functions};
 ghost use Rattle.ps_frame.specs.Trees.{tree_at};
 ghost use Rattle.ps_fresh.specs.InPlans.{IsNameUnder};
 ghost use Rattle.ps_fresh.specs.Known.{Remembers};
+ghost use Rattle.ps_meaning.specs.Sound.{IsSoundButForReaders};
 ghost use Rattle.ps_meaning.specs.Steps.{named_trees};
 ghost use Rattle.ps_phys.specs.Shown.{stream_of};
 ghost use Rattle.ps_rules.specs.Names.{Knows};
-ghost use Rattle.ps_validate.specs.Valid.{IsValidWith, plan_with};
+ghost use Rattle.valid_plans.specs.Valid.{IsValidWith, plan_with};
 ghost use Rattle.lowering_laws.specs.Kept.{KeepsSelect};
 ghost use Rattle.lowering_parts.specs.Gathered.{Later, made_of, state_of};
 ghost use Rattle.kept_trials.specs.Scanned.{SelectsScan, source_made};
@@ -26,10 +27,11 @@ use ps_fresh::lowering::Lowering;
 use ps_fresh::name_source::NameSource;
 use ps_meaning::options::ExprIR;
 use ps_phys::phys::{PhysNodeKind, PhysStream};
-use ps_validate::validate::Valid;
+use ps_tables::fits::table_fits;
 use pu_base::{Arena, Node};
 use std::alloc::Global;
 use std::test::Fail;
+use valid_plans::valid::Valid;
 
 // A lowering that has made nothing yet.
 fn begun(alloc: Global, valid: &Valid, exprs: &Arena<AExpr>) -> Result<Lowering, Fail>
@@ -72,7 +74,7 @@ fn source_of(alloc: Global, df: &DataFrame, low: &mut Lowering) -> Result<PhysSt
 }
 
 // The select over the source of the table that it scans: whatever the source means, the stream means the select of it,
-// and no node breaks or grows for another reason.
+// no node breaks or grows for another reason, and all nodes are those of a sound shape, but for readers.
 fn select_over_scan(
     alloc: Global,
     valid: &Valid,
@@ -87,9 +89,11 @@ fn select_over_scan(
     requires names { (F : Functions) → IsValidWith F valid.now exprs.old.items → Knows low.old.names (IsNameUnder F (plan_with valid.now exprs.old.items)) }
     requires cache { Remembers exprs.old.items low.old.cache }
     ensures keeps { (F : Functions) → IfOk result (λ s. Later exprs.new.items (λ f. KeepsSelect F low.old.origin.0 (source_made (state_of f low.old) low.old.origin.0 table.now).state (state_of f low.new) (source_made (state_of f low.old) low.old.origin.0 table.now).stream (named_trees (tree_at exprs.old.items) asked.now) (stream_of s))) }
+    ensures sound { (F : Functions) → IfOk result (λ s. Later exprs.new.items (λ f. IsSoundButForReaders F (state_of f low.new).nodes)) }
 {
     // The plan speaks of the names and the kinds; no code looks at it.
     let _plan = valid;
+    table_fits(table);
     let input = source_of(alloc, table, low)?;
     match build_select_stream(alloc, exprs, low, input, asked) {
         Ok(stream) => Ok(stream),

@@ -2,7 +2,7 @@
 ghost use Rattle.std.specs.Prelude.{◌≡◌, ◌<◌, IfOk, Some, slice_get};
 ghost use Rattle.ps_frame.specs.Functions.{Functions};
 ghost use Rattle.ps_plan.specs.Graph.{Reached};
-ghost use Rattle.ps_validate.specs.Valid.{IsValidWith, plan_with};
+ghost use Rattle.valid_plans.specs.Valid.{IsValidWith, plan_with};
 ghost use Rattle.kept_trials.specs.Scanned.{ScansWhole, SelectsFrom, SelectsScan};
 
 use crate::functions::Same;
@@ -11,12 +11,13 @@ use ps_frame::frame::DataFrame;
 use ps_meaning::options::ExprIR;
 use ps_plan::ir::IR;
 use ps_plan::walk::entry;
-use ps_validate::validate::{Valid, validate};
+use ps_validate::validate::validate;
 use pu_base::{Arena, Node, Steps};
 use std::alloc::Global;
 use std::marker::Brand;
 use std::sync::ledger::{Blank, Ledger};
 use std::test::Fail;
+use valid_plans::valid::Valid;
 
 fn counted_plan<L: Ledger>(
     blank: Blank,

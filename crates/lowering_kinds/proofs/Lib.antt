@@ -1,4 +1,4 @@
 mod Alike
 mod Existing
-mod Staying
-mod Selecting
+pub mod Staying
+pub mod Selecting

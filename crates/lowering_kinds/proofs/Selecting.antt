@@ -44,7 +44,7 @@ own_is n Tree.len h = absurd (differ (sym h))
 own_is n (Tree.left_out w) h = absurd (differ (sym h))
 own_is n Tree.missing h = absurd (differ (sym h))
 
-same_is : (xs ys : List Name) → same_names xs ys ≡ true → xs ≡ ys
+pub same_is : (xs ys : List Name) → same_names xs ys ≡ true → xs ≡ ys
 same_is [] [] h = refl
 same_is [] (y ∷ ys) h = absurd (differ (sym h))
 same_is (x ∷ xs) [] h = absurd (differ (sym h))
@@ -92,25 +92,25 @@ some_of None h = absurd (differ (sym h))
 some_of (Some f) h = refl
 
 module _ (F : Functions) (at : ℕ) (input : Stream) where
-  abbrev items_of : List Named → List NamedOperand
+  abbrev pub items_of : List Named → List NamedOperand
   items_of es = map (λ (e : Named). (e.0, as_operand at input e.1)) es
 
-  names_back : (es : List Named) → names_of_items (items_of es) ≡ expr_names es
+  pub names_back : (es : List Named) → names_of_items (items_of es) ≡ expr_names es
   names_back [] = refl
   names_back (e ∷ es) = ap (λ ns. e.0 ∷ ns) (names_back es)
 
-  operands_back : (es : List Named) → operands_of (items_of es) ≡ map (as_operand at input) (exprs_of es)
+  pub operands_back : (es : List Named) → operands_of (items_of es) ≡ map (as_operand at input) (exprs_of es)
   operands_back [] = refl
   operands_back (e ∷ es) = ap (λ os. as_operand at input e.1 ∷ os) (operands_back es)
 
-  exprs_back : (es : List Named) → exprs_of_all (operands_of (items_of es)) ≡ exprs_of es
+  pub exprs_back : (es : List Named) → exprs_of_all (operands_of (items_of es)) ≡ exprs_of es
   exprs_back [] = refl
   exprs_back (e ∷ es) = ap (λ xs. e.1 ∷ xs) (exprs_back es)
 
-  named_back : (es : List Named) → under (names_of_items (items_of es)) (exprs_of_all (operands_of (items_of es))) ≡ es
+  pub named_back : (es : List Named) → under (names_of_items (items_of es)) (exprs_of_all (operands_of (items_of es))) ≡ es
   named_back es = (λ i. under (names_back es i) (exprs_back es i)) ∙ under_own es
 
-  own_fields : (f : Fields) (es : List Named) → are_own_columns (items_of es) ≡ true → fields_of es f ≡ named_fields (names_of_items (items_of es)) f
+  pub own_fields : (f : Fields) (es : List Named) → are_own_columns (items_of es) ≡ true → fields_of es f ≡ named_fields (names_of_items (items_of es)) f
   own_fields f [] h = refl
   own_fields f (e ∷ es) h =
       let b = both_hold (is_own_column e.0 e.1) (are_own_columns (items_of es)) h in

@@ -20,6 +20,7 @@ use Rattle.ps_shares.proofs.Stands.{stand_for_asked}
 use Rattle.ps_bundles.specs.Lowers.{HaveKinds}
 use Rattle.ps_bundles.proofs.Lowers.{exprs_keep, selects_keep}
 use Rattle.lowering_sizes.proofs.Sizes.{exprs_stay_small, selects_stay_small}
+use Rattle.lowering_sound.proofs.Sounding.{exprs_stay_sound, selects_stay_sound}
 use Rattle.lowering_laws.specs.Kept.{KeepsExprs, KeepsSelect, LeavesExprs, LeavesStream, names_asked}
 
 asked_named : (f : Node → Tree) (es : List ExprIR) → under (names_asked es) (key_trees f es) ≡ named_trees f es
@@ -52,6 +53,7 @@ module _ (F : Functions) (at : ℕ) (input : Stream) (s : State) (ns : List Name
             let r = exprs_keep F at input s ns es ready many small tables choice rows in
             let z = exprs_stay_small F at input s ns es ready many tables choice rows in
             (r.0, z.0, record { causes = r.1; sizes = z.1 });
+        sound = exprs_stay_sound F at input s es ready small;
       }
 
   pub exprs_kept : (t : State) (answered : List Named) (stream : Stream) → t ≡ Ruled.state → stream ≡ Ruled.stream → answered ≡ under ns Ruled.exprs → t.names.next < 2 ^ 64 → IsReady s input (exprs_of (under ns es))
@@ -68,9 +70,12 @@ pub select_kept : (F : Functions) (at : ℕ) (input : Stream) (s t : State) (es 
 select_kept F at input s t es stream et em small ready =
     let m = select_stream at input es s in
     let le : m.state.names.next ≤ 2 ^ 64 = (let n = ap (λ (x : State). x.names.next) et in omega arith) in
-    subst (λ (x : State). KeepsSelect F at s x input es stream) (sym et) (subst (λ (x : Stream). KeepsSelect F at s m.state input es x) (sym em) (λ tables choice rows.
-    let r = selects_keep F at input s es ready le tables choice rows in
-    (r.0, record { causes = r.1; sizes = selects_stay_small F at input s es ready tables choice rows })))
+    subst (λ (x : State). KeepsSelect F at s x input es stream) (sym et) (subst (λ (x : Stream). KeepsSelect F at s m.state input es x) (sym em) (record {
+      meaning = λ tables choice rows.
+          let r = selects_keep F at input s es ready le tables choice rows in
+          (r.0, record { causes = r.1; sizes = selects_stay_small F at input s es ready tables choice rows });
+      sound = λ differ. selects_stay_sound F at input s es ready differ le;
+    }))
 
 -- of expressions of an arena, under their names
 pub asked_kept : (F : Functions) (f : Node → Tree) (at : ℕ) (input : Stream) (s t : State) (asked : List ExprIR) (answered : List Named) (stream : Stream) → LeavesExprs at input s t (names_asked asked) (key_trees f asked) answered stream → t.names.next < 2 ^ 64

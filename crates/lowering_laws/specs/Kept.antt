@@ -14,6 +14,8 @@ use Rattle.ps_frame.specs.Trees.{Tree}
 use Rattle.ps_rules.specs.Lowered.{lower_exprs, select_stream}
 use Rattle.ps_rules.specs.Slots.{State, Stream, schema_at as stream_schema, under}
 use Rattle.ps_bundles.specs.Lowers.{HaveKinds}
+use Rattle.lowering_names.specs.Lawful.{Differ}
+use Rattle.lowering_sound.specs.Sound.{StaysSound}
 
 -- the names under which expressions are asked for
 abbrev pub names_asked : List ExprIR → List Name
@@ -30,14 +32,16 @@ pub record LeavesStream (at : ℕ) (input : Stream) (before after : State) (aske
   pub nodes : after ≡ (select_stream at input asked before).state
   pub to : stream ≡ (select_stream at input asked before).stream
 
--- Over whatever table of its schema the input means, the answered expressions over the answered stream end as the asked ones do over the input. No new node shows another cause, or is large where neither the select of the asked ones nor the input is. The answered ones are elementwise, and have the names and the kinds of the asked ones.
+-- Over whatever table of its schema the input means, the answered expressions over the answered stream end as the asked ones do over the input. No new node shows another cause, or is large where neither the select of the asked ones nor the input is. The answered ones are elementwise, and have the names and the kinds of the asked ones. Each new node is one of a sound shape, whatever number of readers it has.
 pub record KeepsExprs (F : Functions) (at : ℕ) (before after : State) (input : Stream) (asked answered : List Named) (stream : Stream) : Type 0 where
   pub elementwise : AllByRecursion (λ e. IsTrue (is_elementwise e)) (exprs_of answered)
   pub names : expr_names answered ≡ expr_names asked
   pub kinds : (tables : ℕ → Table) → IsPhysicalChoice F after.nodes tables → HasRowsOf (schema_at (slice_get before.nodes input.0)) (tables input.0)
       → HaveKinds after.nodes tables stream (exprs_of answered) (stream_schema before.nodes input) (exprs_of asked)
   pub meaning : LowersExprs F before.nodes after.nodes at asked input.0 answered stream.0
+  pub sound : StaysSound F before.nodes after.nodes
 
--- The same of a select, whose stream ends as the select does over the input.
-abbrev pub KeepsSelect : Functions → ℕ → (before after : State) → (input : Stream) → (asked : List Named) → (stream : Stream) → Type 0
-KeepsSelect F at before after input asked stream = LowersStep F before.nodes after.nodes at (select asked) input.0 stream.0
+-- The same of a select, whose stream ends as the select does over the input. Its new nodes are those of a sound shape where its names differ.
+pub record KeepsSelect (F : Functions) (at : ℕ) (before after : State) (input : Stream) (asked : List Named) (stream : Stream) : Type 0 where
+  pub meaning : LowersStep F before.nodes after.nodes at (select asked) input.0 stream.0
+  pub sound : Differ (expr_names asked) → StaysSound F before.nodes after.nodes

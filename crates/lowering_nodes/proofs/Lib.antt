@@ -1,2 +1,2 @@
-mod Listing
-mod Forming
+pub mod Listing
+pub mod Forming

@@ -1,7 +1,7 @@
 use Rattle.std.proofs.Common.{subst, sym}
 use Rattle.pu_base.specs.declared.arena.Node.{Node}
 use Rattle.ps_plan.specs.Graph.{Reached}
-use Rattle.ps_validate.specs.Valid.{plan_with}
+use Rattle.valid_plans.specs.Valid.{plan_with}
 use Rattle.kept_trials.proofs.Ready.{root_reached, sink_input}
 use Rattle.kept_trials.proofs.valid.below_sink.Goals as goal
 

@@ -1,4 +1,4 @@
-use Rattle.ps_validate.specs.Valid.{plan_with}
+use Rattle.valid_plans.specs.Valid.{plan_with}
 use Rattle.kept_trials.proofs.Ready.{selects_from}
 use Rattle.kept_trials.proofs.valid.select_at.Goals as goal
 

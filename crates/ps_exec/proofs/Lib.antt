@@ -1,3 +1,0 @@
-mod Running
-mod Walking
-mod Wanting

@@ -1,6 +1,0 @@
-use Rattle.std.proofs.Common.{◌≡◌, take}
-use Rattle.ps_exec.proofs.held_tables.HeldTables.share_all.Given as goal
-use Rattle.ps_exec.specs.Held.{tables_in}
-
-abbrev pub invariant-loop-node : goal.invariant-loop-node
-invariant-loop-node l = l.tables.items ≡ tables_in l.self (take l.node-index l.nodes)
