@@ -1,0 +1,11 @@
+pub mod Members
+pub mod Leaving
+pub mod Taking
+pub mod Counting
+pub mod Numbered
+pub mod Muxed
+pub mod Placed
+pub mod Shown
+pub mod Readers
+pub mod Fit
+pub mod Meaning
