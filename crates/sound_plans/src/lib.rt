@@ -5,5 +5,6 @@ mod exprs;
 mod given;
 mod kinds;
 mod many;
+mod named;
 mod nodes;
 pub mod plans;

@@ -7,9 +7,9 @@ ghost use Rattle.ps_meaning.specs.Sound.{IsSound, IsSoundButForReaders, all_inpu
 ghost use Rattle.ps_phys.specs.Placed.{IsPlaced};
 ghost use Rattle.ps_phys.specs.Shown.{ReadsWhatIsThere, shown};
 ghost use Rattle.ps_phys.specs.Underway.{numbers_in};
-ghost use Rattle.sound_plans.specs.Named.{NamesExpressions};
 ghost use Rattle.plan_readers.specs.Ordered.{ordered};
 
+use crate::named::{are_in_order, node_names_below};
 use crate::nodes::is_fit;
 use keyed_slots::SlotMap;
 use plan_readers::places::{Places, are_earlier, places_in};
@@ -47,10 +47,13 @@ fn are_fit<F: Functions, L: Ledger>(
     requires parts { blank.parts ≡ L.parts }
     requires some { 0 < L.parts }
     requires places { IsPlaced (numbers_in order.now) places.now.slots }
-    requires complete { NamesExpressions (tree_at arena.now.items) phys.now.slots }
     ensures fit { IfOk result (λ fit. IsTrue fit → IsSoundButForReaders (F.told functions.now) (ordered (tree_at arena.now.items) phys.now.slots order.now)) }
     ensures memory { OnErr result (result ≡ Err PolarsError.OutOfMemory) }
 {
+    let in_order = are_in_order(arena);
+    if !in_order {
+        return Ok(false);
+    }
     let mut steps = Steps::<L>::new(blank);
     let mut cache = ExprCache::with_capacity(alloc, arena.len())?;
     for number in 0..order.len() {
@@ -59,6 +62,10 @@ fn are_fit<F: Functions, L: Ledger>(
         };
         let earlier = are_earlier(places, &node.kind, number);
         if !earlier {
+            return Ok(false);
+        }
+        let named = node_names_below(&node.kind, arena.len());
+        if !named {
             return Ok(false);
         }
         let fit = is_fit(
@@ -81,8 +88,8 @@ fn are_fit<F: Functions, L: Ledger>(
 /// Looks over the nodes that a root reaches: if it answers that the plan is sound, each of them reads earlier nodes, as many as its
 /// kind asks for, its schema and its parameters keep all rules, and each of its ports has one reader.
 ///
-/// Every expression that a node names has to be there. It looks once at each node and each input, and a fixed number of times at each
-/// of their expressions. Fails only for want of memory.
+/// It never answers so where an expression of the arena names a later one. It looks once at each node, each input and each expression of
+/// the arena, and a fixed number of times at each expression that a node names. Fails only for want of memory.
 pub fn check_plan<F: Functions>(
     alloc: Global,
     phys: &SlotMap<PhysNodeKey, PhysNode>,
@@ -92,7 +99,6 @@ pub fn check_plan<F: Functions>(
 ) -> PolarsResult<PlanCheck>
     requires root { IsSome (value_at phys.now.slots root.0) }
     requires whole { ReadsWhatIsThere phys.now.slots }
-    requires complete { NamesExpressions (tree_at arena.now.items) phys.now.slots }
     ensures sound { IfOk result (λ check. IsTrue check.is_sound → IsSound (F.told functions.now) (shown (tree_at arena.now.items) phys.now.slots root.0)) }
     ensures nodes { IfOk result (λ check. check.nodes ≡ length (shown (tree_at arena.now.items) phys.now.slots root.0)) }
     ensures inputs { IfOk result (λ check. check.inputs ≡ length (all_inputs (shown (tree_at arena.now.items) phys.now.slots root.0))) }

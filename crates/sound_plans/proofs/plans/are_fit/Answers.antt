@@ -1,4 +1,4 @@
-use Rattle.std.proofs.Common.{get_or, sym, arith}
+use Rattle.std.proofs.Common.{◌≡◌, ℕ, get_or, sym, subst, arith}
 use Rattle.std.proofs.lemmas.Option.{slice_get-get_or}
 use Rattle.ps_frame.specs.Trees.{tree_at}
 use Rattle.ps_meaning.specs.Sound.{IsFitNode}
@@ -8,13 +8,15 @@ use Rattle.ps_phys.specs.Walks.{renumbered}
 use Rattle.ps_phys.specs.declared.phys.PhysNodeKey.{PhysNodeKey}
 use Rattle.plan_readers.proofs.Ordering.{each-end, each-next, node-stands, shape-length}
 use Rattle.sound_plans.proofs.Standing.{fit-node}
+use Rattle.sound_plans.specs.Named.{AreThereBelow}
 use Rattle.plan_readers.specs.Ordered.{ordered}
 use Rattle.sound_plans.proofs.plans.are_fit.Goals as goal
 
 pub is_fit-requires-clause-complete : goal.is_fit-requires-clause-complete
 is_fit-requires-clause-complete g c = λ κs lives.
-    let key : PhysNodeKey = get_or c.args.order.now c.loop-number.number (record { 0 = 0 }) in
-    c.requires.complete key.0 c.in-Some.node.now (sym c.in-Some.ensures)
+    let count = c.len-in-loop-number.ensures in
+    let P : ℕ → Type 0 = λ n. AreThereBelow (tree_at c.args.arena.now.items) n in
+    c.node_names_below-named.ensures c.if-not-named.false (tree_at c.args.arena.now.items) (subst P (sym count) (c.are_in_order-in_order.ensures c.if-not-in_order.false))
 
 pub loop-number-preserved : goal.loop-number-preserved
 loop-number-preserved g c =
