@@ -1,2 +1,17 @@
+pub mod HandingIn
+pub mod InputKeys
 pub mod Marking
+pub mod Moving
+pub mod OutputKeys
+pub mod Replacing
+pub mod Senders
 pub mod Stepping
+pub mod Storing
+pub mod Seeing
+pub mod Leading
+pub mod Resting
+pub mod Phases
+pub mod Opened
+pub mod Begun
+pub mod Sinks
+pub mod Telling

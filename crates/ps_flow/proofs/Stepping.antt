@@ -5,7 +5,7 @@ use Rattle.std.proofs.lemmas.List.{map-append}
 use Rattle.std.proofs.lemmas.Option.{slice_get_within}
 use Rattle.keyed_slots.specs.Slots.{value_at}
 use Rattle.ps_flow.specs.Marked.{closed_at, mark_of, unmarked}
-use Rattle.ps_flow.specs.Standing.{EndsAs, HaveAll, Stands, setting_of}
+use Rattle.ps_flow.specs.Standing.{EndsAs, HaveAll, Stands, origins_in, seen_as, setting_of}
 use Rattle.ps_flow.specs.declared.marks.Mark.{Mark}
 use Rattle.ps_flow.specs.declared.marks.Marks.{Marks}
 use Rattle.ps_flow.specs.declared.world.World.{World as Held}
@@ -17,7 +17,9 @@ use Rattle.ps_graph.specs.declared.graph.Graph.{Graph}
 use Rattle.ps_graph.specs.declared.graph.GraphNode.{GraphNode}
 use Rattle.ps_graph.specs.Shown.{IsLinked, nodes_of, numbers, places_from, values, wire_of, wires_of}
 use Rattle.ps_meaning.specs.Errors.{cause_error}
-use Rattle.ps_meaning.specs.Shape.{PhysicalNode}
+use Rattle.ps_meaning.specs.Shape.{PhysicalNode, Shape}
+use Rattle.ps_meaning.specs.Sound.{input_schemas}
+use Rattle.ps_options.specs.declared.options.Options.{Options}
 use Rattle.ps_outs.proofs.Counting.{few_out}
 use Rattle.ps_ports.specs.Wires.{Wire}
 use Rattle.ps_settle.proofs.Members.{at_map, item_at, length_map, map_at, map_twice}
@@ -25,6 +27,7 @@ use Rattle.ps_turns.specs.Progress.{Progress}
 use Rattle.ps_world.specs.Closing.{after_close, after_end}
 use Rattle.ps_world.specs.Pipes.{change_pipes}
 use Rattle.ps_world.specs.World.{Ending, Node, Pipe, World, ended, faulty, finished, running, shape_of}
+use Rattle.turn_laws.specs.Updating.{SeenNode}
 use Rattle.world_pipes.specs.Shown.{AreShown, Setting, closed_pipe, ended_pipe}
 use Rattle.world_records.specs.Shown.{is_claimed, journal_shown, record_shown}
 use Rattle.world_records.specs.Journals.{Written, claims_of}
@@ -33,23 +36,23 @@ use Rattle.world_records.specs.declared.records.Record.TheVariants as entry
 use Rattle.world_pipes.specs.declared.pipes.Pipes.{Pipes}
 
 -- what a step leaves of a node that only changes its marks
-record Core : Type 0 where
+pub record Core : Type 0 where
   of : PhysicalNode
   behind : Progress
 
-abbrev core : Node → Core
+abbrev pub core : Node → Core
 core x = record { of = x.node; behind = x.progress }
 
-places_map : {A B : Type 0} (f : A → B) (test : B → Bool) (k : ℕ) (xs : List A) → places_from k (λ x. test (f x)) xs ≡ places_from k test (map f xs)
+pub places_map : {A B : Type 0} (f : A → B) (test : B → Bool) (k : ℕ) (xs : List A) → places_from k (λ x. test (f x)) xs ≡ places_from k test (map f xs)
 places_map f test k [] = refl
 places_map f test k (x ∷ xs) = ap (λ l. cond (test (f x)) (k ∷ l) l) (places_map f test (k + 1) xs)
 
-set_alike : {A B : Type 0} (f : A → B) (xs : List A) (n : ℕ) (x y : A) → slice_get xs n ≡ Some x → f y ≡ f x → map f (set xs n y) ≡ map f xs
+pub set_alike : {A B : Type 0} (f : A → B) (xs : List A) (n : ℕ) (x y : A) → slice_get xs n ≡ Some x → f y ≡ f x → map f (set xs n y) ≡ map f xs
 set_alike f [] n x y at e = refl
 set_alike f (z ∷ zs) zero x y at e = let is : z ≡ x = (let both : Some z ≡ Some x = at in cc) in ap (λ b. b ∷ map f zs) (e ∙ ap f (sym is))
 set_alike f (z ∷ zs) (suc n) x y at e = ap (λ l. f z ∷ l) (set_alike f zs n x y at e)
 
-same_wires : (f : Pipe → Pipe) → ((p : Pipe) → (f p).wire ≡ p.wire) → (test : Pipe → Bool) (ps : List Pipe) → map (λ (p : Pipe). p.wire) (change_pipes test f ps) ≡ map (λ (p : Pipe). p.wire) ps
+pub same_wires : (f : Pipe → Pipe) → ((p : Pipe) → (f p).wire ≡ p.wire) → (test : Pipe → Bool) (ps : List Pipe) → map (λ (p : Pipe). p.wire) (change_pipes test f ps) ≡ map (λ (p : Pipe). p.wire) ps
 same_wires f same test [] = refl
 same_wires f same test (p ∷ ps) = λ i. one (test p) i ∷ same_wires f same test ps i
   where
@@ -82,31 +85,39 @@ module _ {N : Type 0} (g : Graph N) (linked : IsLinked g) (ps : List Pipe) (wire
       let x = item_at (values g.nodes.slots) n (omega (arith, within, long)) in
       absurd (let clash : None ≡ Some x.0 = sym none ∙ value_there g.nodes.slots linked.nodes_there n ∙ x.1 in cc)
 
-module _ {N : Type 0} (Has : N → PhysicalNode → Progress → Type 0) where
-  have_alike : (xs ys : List Node) (ns : List N) → map core ys ≡ map core xs → HaveAll Has xs ns → HaveAll Has ys ns
-  have_alike xs ys ns e all =
+module _ {N : Type 0} (Has : Options → N → SeenNode → Type 0) where
+  -- what a node is seen as hangs on its core alone
+  abbrev seen_of : Shape → Core → List Bool → SeenNode
+  seen_of shape c es = record { node = c.of; schemas = input_schemas shape c.of; empties = es; progress = c.behind }
+
+  pub shape_alike : (xs ys : List Node) → map core ys ≡ map core xs → map (λ (n : Node). n.node) ys ≡ map (λ (n : Node). n.node) xs
+  shape_alike xs ys e = sym (map_twice (λ (c : Core). c.of) core ys) ∙ ap (map (λ (c : Core). c.of)) e ∙ map_twice (λ (c : Core). c.of) core xs
+
+  pub have_alike : (o : Options) (xs ys : List Node) (ns : List N) → map core ys ≡ map core xs → HaveAll Has o (map (λ (n : Node). n.node) xs) xs ns → HaveAll Has o (map (λ (n : Node). n.node) ys) ys ns
+  have_alike o xs ys ns e all =
       record {
         long = all.long ∙ sym (length_map core xs) ∙ ap length (sym e) ∙ length_map core ys;
         each = λ k y n at there.
             let x = at_map core xs k (core y) (ap (λ l. slice_get l k) (sym e) ∙ map_at core ys k y at) in
-            subst (λ (c : Core). Has n c.of c.behind) x.2 (all.each k x.0 n x.1 there);
+            let has = all.each k x.0 n x.1 there in
+            (has.0, subst (λ (sh : Shape). Has o n (seen_as sh y has.0)) (sym (shape_alike xs ys e)) (subst (λ (c : Core). Has o n (seen_of (map (λ (m : Node). m.node) xs) c has.0)) x.2 has.1));
       }
 
-  shape_alike : (xs ys : List Node) → map core ys ≡ map core xs → map (λ (n : Node). n.node) ys ≡ map (λ (n : Node). n.node) xs
-  shape_alike xs ys e = sym (map_twice (λ (c : Core). c.of) core ys) ∙ ap (map (λ (c : Core). c.of)) e ∙ map_twice (λ (c : Core). c.of) core xs
+  origins_alike : (xs ys : List Node) → map core ys ≡ map core xs → origins_in xs ≡ origins_in ys
+  origins_alike xs ys e = sym (map_twice (λ (c : Core). record { 0 = c.of.origin }) core xs) ∙ ap (map (λ (c : Core). record { 0 = c.of.origin })) (sym e) ∙ map_twice (λ (c : Core). record { 0 = c.of.origin }) core ys
 
   module _ (w : World) (h : Held N) (stands : Stands Has w h) where
     -- the records, with memory for those of the pieces out
-    journal_more : (r : Record) (rs : List Record) → rs ≡ h.journal.records ++ r ∷ [] → journal_shown rs ≡ w.journal ++ record_shown r ∷ []
+    pub journal_more : (r : Record) (rs : List Record) → rs ≡ h.journal.records ++ r ∷ [] → journal_shown rs ≡ w.journal ++ record_shown r ∷ []
     journal_more r rs is = ap journal_shown is ∙ map-append record_shown h.journal.records (r ∷ []) ∙ ap (λ l. l ++ record_shown r ∷ []) stands.journal
 
-    spare_left : (n m k : ℕ) → h.options.workers + 1 ≤ n → n ≡ m → k + 1 ≡ m → length w.outs ≤ k
+    pub spare_left : (n m k : ℕ) → h.options.workers + 1 ≤ n → n ≡ m → k + 1 ≡ m → length w.outs ≤ k
     spare_left n m k room same one =
         let few = few_out w.options.workers w.outs h.outs stands.outs in
         let workers = ap (λ o. o.workers) stands.options in
         omega (arith, few, workers, room, same, one)
 
-    inside : (n : ℕ) (x : Node) → slice_get w.nodes n ≡ Some x → n < length h.graph.nodes.slots
+    pub inside : (n : ℕ) (x : Node) → slice_get w.nodes n ≡ Some x → n < length h.graph.nodes.slots
     inside n x at =
         let within = slice_get_within w.nodes n x at in
         let long = stands.nodes.long in
@@ -125,7 +136,8 @@ module _ {N : Type 0} (Has : N → PhysicalNode → Progress → Type 0) where
         record {
           options = stands.options;
           linked = stands.linked;
-          nodes = have_alike w.nodes nodes' (nodes_of h.graph.nodes.slots) cores stands.nodes;
+          nodes = have_alike w.options w.nodes nodes' (nodes_of h.graph.nodes.slots) cores stands.nodes;
+          origins = stands.origins ∙ origins_alike w.nodes nodes' cores;
           wires = stands.wires ∙ sym (same_wires closed_pipe (λ p. refl) test w.pipes);
           marks = marked ∙ ap (closed_at n) stands.marks ∙ closed_marks w.nodes n x at;
           pipes = subst (λ sh. AreShown (setting_of sh w.options) (change_pipes test closed_pipe w.pipes) pipes) (sym (shape_alike w.nodes nodes' cores)) (close (setting_of (shape_of w) w.options) w.pipes stands.linked stands.wires (inside n x at) stands.pipes);
@@ -146,7 +158,8 @@ module _ {N : Type 0} (Has : N → PhysicalNode → Progress → Type 0) where
         record {
           options = stands.options;
           linked = stands.linked;
-          nodes = have_alike w.nodes nodes' (nodes_of h.graph.nodes.slots) cores stands.nodes;
+          nodes = have_alike w.options w.nodes nodes' (nodes_of h.graph.nodes.slots) cores stands.nodes;
+          origins = stands.origins ∙ origins_alike w.nodes nodes' cores;
           wires = stands.wires ∙ sym (map_twice (λ (p : Pipe). p.wire) ended_pipe w.pipes);
           marks = marked ∙ ap (map (λ (m : Mark). unmarked)) stands.marks ∙ ended_marks w.nodes;
           pipes = subst (λ sh. AreShown (setting_of sh w.options) (map ended_pipe w.pipes) pipes) (sym (shape_alike w.nodes nodes' cores)) (end (setting_of (shape_of w) w.options) w.pipes stands.pipes);
@@ -169,6 +182,7 @@ module _ {N : Type 0} (Has : N → PhysicalNode → Progress → Type 0) where
           options = stands.options;
           linked = stands.linked;
           nodes = stands.nodes;
+          origins = stands.origins;
           wires = stands.wires;
           marks = stands.marks;
           pipes = stands.pipes;

@@ -1,2 +1,6 @@
+pub mod Changes
+pub mod Handing
 pub mod Marked
+pub mod Openings
+pub mod Pulling
 pub mod Standing

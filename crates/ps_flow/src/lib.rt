@@ -1,10 +1,21 @@
 //! The world of a run: its graph with all that goes through it, and the steps that change it.
 #![tactic(auto)]
 
+mod beginning;
+mod handing;
+mod inputs;
 pub mod marks;
+mod opening;
+mod output;
+mod outputs;
+pub mod piece_node;
+mod pulling;
 pub mod run_node;
+pub mod store_node;
 pub mod world;
 
 pub use marks::{Mark, Marks};
+pub use piece_node::PieceNode;
 pub use run_node::RunNode;
+pub use store_node::StoreNode;
 pub use world::World;

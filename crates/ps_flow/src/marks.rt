@@ -1,6 +1,13 @@
 //! Which nodes are in the open phase, and which of these are closed.
-ghost use Rattle.std.specs.Prelude.{◌≡◌, map};
-ghost use Rattle.ps_flow.specs.Marked.{closed_at, unmarked};
+ghost use Rattle.std.specs.Prelude.{◌≡◌, ℕ, [], ◌∷◌, ◌++◌, Err, IfOk, List, OnErr, map, replicate};
+ghost use Rattle.ps_flow.specs.Marked.{closed_at, phase_marks, unmarked};
+ghost use Rattle.ps_frame.specs.declared.refusal.PolarsError.{PolarsError};
+ghost use Rattle.ps_graph.specs.Running.{node_numbers};
+
+use keyed_slots::Key;
+use ps_frame::refusal::{PolarsError, PolarsResult};
+use ps_graph::key::GraphNodeKey;
+use std::alloc::Global;
 
 /// Whether a node is in the open phase, and whether it is closed there.
 #[derive(Clone, Copy, Debug, PartialEq, Eq)]
@@ -16,6 +23,58 @@ pub struct Marks {
 }
 
 impl Marks {
+    /// The marks of so many nodes between phases.
+    ///
+    /// Fails only for want of memory.
+    pub fn new(alloc: Global, count: usize) -> PolarsResult<Marks>
+        ensures marks { IfOk result (λ m. m.list.items ≡ replicate count unmarked) }
+        ensures memory { OnErr result (result ≡ Err PolarsError.OutOfMemory) }
+    {
+        let unmarked = Mark {
+            in_phase: false,
+            is_closed: false,
+        };
+        let Ok(list) = vec![in alloc; unmarked; count] else {
+            return Err(PolarsError::OutOfMemory);
+        };
+        Ok(Marks { list })
+    }
+
+    /// A phase opens, with these nodes alone.
+    pub fn open(&mut self, keys: &[GraphNodeKey])
+        ensures { self.new.list.items ≡ phase_marks (node_numbers keys.now) 0 self.old.list.items }
+    {
+        self.leave_out();
+        self.take_in(keys);
+    }
+
+    /// No node is in the phase.
+    fn leave_out(&mut self)
+        ensures { self.new.list.items ≡ phase_marks [] 0 self.old.list.items }
+    {
+        for place in 0..self.list.len() {
+            self.list[place].in_phase = false;
+        }
+    }
+
+    /// These nodes are in the phase, where none was.
+    fn take_in(&mut self, keys: &[GraphNodeKey])
+        ensures { (ms : List Mark) → self.old.list.items ≡ phase_marks [] 0 ms → self.new.list.items ≡ phase_marks (node_numbers keys.now) 0 ms }
+    {
+        for key in keys {
+            self.put_in(key.number() as usize);
+        }
+    }
+
+    /// Puts the node at a place into the phase.
+    fn put_in(&mut self, place: usize)
+        ensures { (ms : List Mark) (ns : List ℕ) → self.old.list.items ≡ phase_marks ns 0 ms → self.new.list.items ≡ phase_marks (ns ++ place ∷ []) 0 ms }
+    {
+        if place < self.list.len() {
+            self.list[place].in_phase = true;
+        }
+    }
+
     /// A node is closed in the open phase.
     pub fn close(&mut self, node: usize)
         ensures { self.new.list.items ≡ closed_at node self.old.list.items }

@@ -1,11 +1,14 @@
 //! The world of a run.
-ghost use Rattle.std.specs.Prelude.{◌≡◌, ◌↔◌, ℕ, ◌<◌, ◌&&◌, List, Some, IsTrue, OnErr, OnOk, Err, count_by, length, map, nat_eq, slice_get};
-ghost use Rattle.ps_flow.specs.Standing.{Stands, or_short};
+ghost use Rattle.std.specs.Prelude.{◌≡◌, ◌↔◌, ◌⊎◌, ℕ, ◌<◌, ◌&&◌, List, Some, IsTrue, OnErr, OnOk, Err, count_by, length, map, nat_eq, option_copied, slice_get};
+ghost use Rattle.ps_flow.specs.Openings.{Tells};
+ghost use Rattle.ps_flow.specs.Standing.{IsUnmarred, Stands, or_short};
+ghost use Rattle.ps_frame.specs.Causes.{Cause};
 ghost use Rattle.ps_frame.specs.declared.refusal.PolarsError.{PolarsError};
 ghost use Rattle.ps_graph.specs.Shown.{IsLinked, wires_of};
+ghost use Rattle.ps_meaning.specs.Errors.{cause_error};
 ghost use Rattle.ps_world.specs.Closing.{after_close, after_end};
 ghost use Rattle.ps_world.specs.Pipes.{change_pipes};
-ghost use Rattle.ps_world.specs.World.{Node, Pipe, World as RunWorld, finished};
+ghost use Rattle.ps_world.specs.World.{Node, Pipe, World as RunWorld, faulty, finished, running};
 ghost use Rattle.world_pipes.specs.Shown.{AreShown, Setting, closed_pipe};
 ghost use Rattle.world_records.specs.Shown.{is_claimed, journal_shown};
 
@@ -50,21 +53,32 @@ fn close_outputs<N>(graph: &Graph<N>, pipes: &mut Pipes, node: u32)
 impl<N: RunNode> World<N> {
     /// Whether the run is finished.
     pub fn finished(&self) -> bool
-        ensures { (w : RunWorld) → Stands N.Has w self.now → IsTrue result ↔ (w.ending ≡ finished) }
+        ensures stands { (w : RunWorld) → Stands N.Has w self.now → IsTrue result ↔ (w.ending ≡ finished) }
+        ensures told { (w : RunWorld) → Tells w self.now → IsTrue result ↔ (w.ending ≡ finished) }
     {
         self.is_finished
     }
 
+    /// The error with which the run is at its end: that of its fault, or out of memory where that was marked.
+    pub fn fault(&self) -> Option<&PolarsError>
+        ensures fault { (w : RunWorld) (c : Cause) → Tells w self.now → w.ending ≡ faulty c → option_copied result ≡ Some (cause_error c) }
+        ensures none { (w : RunWorld) → Tells w self.now → (w.ending ≡ running) ⊎ (w.ending ≡ finished) → IsUnmarred (option_copied result) }
+    {
+        self.fault.as_ref()
+    }
+
     /// All records so far, in order.
     pub fn journal(&self) -> &[Record]
-        ensures { (w : RunWorld) → Stands N.Has w self.now → journal_shown result.now ≡ w.journal }
+        ensures stands { (w : RunWorld) → Stands N.Has w self.now → journal_shown result.now ≡ w.journal }
+        ensures told { (w : RunWorld) → Tells w self.now → journal_shown result.now ≡ w.journal }
     {
         self.journal.records()
     }
 
     /// How many pieces were claimed so far.
     pub fn claims(&self) -> u64
-        ensures { (w : RunWorld) → Stands N.Has w self.now → result ≡ count_by is_claimed w.journal }
+        ensures stands { (w : RunWorld) → Stands N.Has w self.now → result ≡ count_by is_claimed w.journal }
+        ensures told { (w : RunWorld) → Tells w self.now → result ≡ count_by is_claimed w.journal }
     {
         self.journal.claims()
     }

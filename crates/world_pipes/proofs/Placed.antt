@@ -1,5 +1,5 @@
 -- From changes at places to which pipes of a world are shown.
-use Rattle.std.proofs.Common.{◌≡◌, ◌≢◌, ℕ, zero, suc, ◌+◌, ◌≤◌, ◌<◌, ◌⊎◌, inl, inr, Bool, true, false, cond, List, [], ◌∷◌, ◌++◌, length, Option, Some, None, slice_index_or, refl, sym, ap, subst, ◌∙◌, arith}
+use Rattle.std.proofs.Common.{◌≡◌, ◌≢◌, ℕ, zero, suc, ◌≤◌, ◌<◌, ◌⊎◌, inl, inr, Bool, true, false, cond, List, [], ◌∷◌, ◌++◌, length, Option, Some, None, slice_index_or, refl, sym, ap, subst, ◌∙◌, arith}
 use Rattle.std.specs.Prelude.{◌&&◌, ◌||◌, IfNone, IfSome, IsTrue, map, nat_eq, slice_get, slice_set}
 use Rattle.std.proofs.lemmas.List.{length-set}
 use Rattle.std.proofs.lemmas.Option.{slice_get-get_or, slice_get_past, slice_get_within}
@@ -222,7 +222,7 @@ pub by_keys : (test : Pipe → Bool) (ks : List ℕ) (ps : List Pipe) → ks ≡
 by_keys test ks ps names k p at = ap (is_one_of k) names ∙ place_test test ps k p at
 
 -- all places
-below_has : (n k : ℕ) → k < n → is_one_of k (below n) ≡ true
+pub below_has : (n k : ℕ) → k < n → is_one_of k (below n) ≡ true
 below_has zero k h = absurd (omega (arith, h))
 below_has (suc n) k h = by (nat_eq k n) refl (below_has n k)
   where

@@ -1,2 +1,3 @@
 pub mod Shown
 pub mod Changed
+pub mod Giving

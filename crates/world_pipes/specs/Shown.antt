@@ -37,3 +37,7 @@ closed_pipe p = record p { is_closed = true }
 
 abbrev pub ended_pipe : Pipe → Pipe
 ended_pipe p = record p { in_phase = false; is_closed = false }
+
+-- it is in the phase that opens, or not
+abbrev pub phase_pipe : Bool → Pipe → Pipe
+phase_pipe b p = record p { in_phase = b }

@@ -1,5 +1,5 @@
 -- The next morsel of the pipe with the key is taken.
-use Rattle.std.proofs.Common.{◌≡◌, ap, arith, refl, List, Some, false}
+use Rattle.std.proofs.Common.{◌≡◌, ap, arith, refl, List, Some}
 use Rattle.ps_frame.specs.Tables.{Fields, Frame}
 use Rattle.ps_pipes.specs.Shown.{Shows}
 use Rattle.ps_pipes.specs.declared.pipe.Pipe.{Pipe as Held}
