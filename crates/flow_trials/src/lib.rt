@@ -2,13 +2,9 @@
 #![tactic(auto)]
 
 #[cfg(test)]
-mod fixtures;
-#[cfg(test)]
 mod multiplexers;
 #[cfg(test)]
 mod passing;
-#[cfg(test)]
-mod script;
 #[cfg(test)]
 mod sources;
 #[cfg(test)]

@@ -1,5 +1,5 @@
 // Multiplexers: what they answer to all states of their input and of two readers.
-use crate::script::hold;
+use flow_scripts::script::hold;
 use ps_nodes::flow::FlowNode;
 use ps_nodes::multiplexer::MultiplexerNode;
 use std::alloc::Global;

@@ -1,6 +1,6 @@
 // Nodes with one input and one output that keep nothing: what they answer to each pair of states.
-use crate::fixtures::{column, schema};
-use crate::script::hold;
+use flow_scripts::fixtures::{column, schema};
+use flow_scripts::script::hold;
 use ps_nodes::filter::FilterNode;
 use ps_nodes::flow::FlowNode;
 use ps_nodes::map::MapNode;

@@ -1,6 +1,6 @@
 // Sources and sinks: what they answer to each state of their one port.
-use crate::fixtures::{options, schema, table};
-use crate::script::hold;
+use flow_scripts::fixtures::{options, schema, table};
+use flow_scripts::script::hold;
 use ps_nodes::flow::FlowNode;
 use ps_nodes::sequence::MorselSeq;
 use ps_nodes::sink::InMemorySinkNode;

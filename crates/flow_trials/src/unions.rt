@@ -1,5 +1,5 @@
 // Unions: what they answer to all states of two inputs and their output, and to some of one input and of three.
-use crate::script::hold;
+use flow_scripts::script::hold;
 use ps_nodes::flow::FlowNode;
 use ps_nodes::ordered_union::OrderedUnionNode;
 use std::test::Fail;

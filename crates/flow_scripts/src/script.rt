@@ -1,6 +1,6 @@
 //! Scripts: what nodes are given, one update after the other, and what they must answer.
-ghost use Rattle.std.specs.Prelude.{OnOk};
-ghost use Rattle.flow_trials.specs.Followed.{SameCounts};
+ghost use Rattle.std.specs.Prelude.{◌≡◌, OnOk};
+ghost use Rattle.flow_scripts.specs.Followed.{SameCounts};
 
 use ps_graph::compute_node::ComputeNode;
 use ps_ports::port_state::PortState;
@@ -134,4 +134,35 @@ pub fn hold<N: ComputeNode>(
         follow(alloc, node, inputs, outputs, line)?;
     }
     Ok(())
+}
+
+/// A node has this word for its kind, takes its input in whole or doesn't, and has so many of its stages behind it.
+pub fn stands<N: ComputeNode>(
+    node: &N,
+    word: &str,
+    is_intensive: bool,
+    stages: usize,
+) -> Result<(), Fail> {
+    let (is, behind) = (
+        node.is_memory_intensive_pipeline_blocker(),
+        node.stages_behind(),
+    );
+    if node.name() != word {
+        return Err(Fail::from("another word"));
+    }
+    if is != is_intensive || behind != stages {
+        return Err(Fail::new(format_args!("{word}: intensive {is}, {behind} stages")));
+    }
+    Ok(())
+}
+
+/// A node has no rows for its graph's answer.
+pub fn gives_no_answer<N: ComputeNode>(alloc: Global, node: &mut N) -> Result<(), Fail>
+    ensures { node.new ≡ N.emptied node.old }
+{
+    match node.get_output(alloc) {
+        Ok(None) => Ok(()),
+        Ok(Some(_table)) => Err(Fail::from("an answer")),
+        Err(_error) => Err(Fail::from("no memory")),
+    }
 }

@@ -1,6 +1,6 @@
 -- The node after the updates so far.
-use Rattle.flow_trials.specs.Followed.{SameCounts}
-use Rattle.flow_trials.proofs.script.follow.Given as goal
+use Rattle.flow_scripts.specs.Followed.{SameCounts}
+use Rattle.flow_scripts.proofs.script.follow.Given as goal
 
 abbrev pub invariant-loop-states : goal.invariant-loop-states
 invariant-loop-states g l = record {

@@ -1,5 +1,5 @@
 -- The node after the lines so far.
-use Rattle.flow_trials.proofs.script.hold.Given as goal
+use Rattle.flow_scripts.proofs.script.hold.Given as goal
 
 abbrev pub invariant-loop-line : goal.invariant-loop-line
 invariant-loop-line g l = record {

@@ -14,8 +14,8 @@ use pu_base::{Arena, PlSmallStr};
 use std::alloc::Global;
 use std::test::Fail;
 
-// One column of numbers of this name.
-fn named(alloc: Global, name: &str) -> Result<Schema, Fail>
+/// One column of numbers of this name.
+pub fn schema_named(alloc: Global, name: &str) -> Result<Schema, Fail>
     ensures { IfOk result (λ s. s ≡ (name.now, data_type.Int64) ∷ []) }
 {
     let mut schema = Schema::new(alloc);
@@ -28,20 +28,27 @@ fn named(alloc: Global, name: &str) -> Result<Schema, Fail>
 pub fn schema(alloc: Global) -> Result<Schema, Fail>
     ensures { IfOk result (λ s. s ≡ (codes "a", data_type.Int64) ∷ []) }
 {
-    named(alloc, "a")
+    schema_named(alloc, "a")
 }
 
-/// The expression that is this column.
-pub fn column(alloc: Global) -> Result<StreamExpr, Fail> {
+/// The expression that is the column of this name.
+pub fn column_named(alloc: Global, name: &str) -> Result<StreamExpr, Fail> {
     let mut exprs = Arena::new(alloc);
-    let name = PlSmallStr::from_static(alloc, "a")?;
+    let output_name = OutputName::Alias(PlSmallStr::from_str(alloc, name)?);
+    let name = PlSmallStr::from_str(alloc, name)?;
     let node = exprs.add(AExpr::Column(name))?;
-    let output_name = OutputName::Alias(PlSmallStr::from_static(alloc, "a")?);
     let column = StreamExpr::new(alloc, &ExprIR { node, output_name }, &exprs)?;
     Ok(column)
 }
 
-fn rows(alloc: Global, schema: Schema, count: usize) -> Result<DataFrame, Fail> {
+/// The expression that is this column.
+pub fn column(alloc: Global) -> Result<StreamExpr, Fail> {
+    column_named(alloc, "a")
+}
+
+/// So many rows of the column of this name.
+pub fn table_named(alloc: Global, name: &str, count: usize) -> Result<DataFrame, Fail> {
+    let schema = schema_named(alloc, name)?;
     let mut values = Vec::new(alloc);
     for _ in 0..count {
         values.push(Value::Int64(7))?;
@@ -52,7 +59,7 @@ fn rows(alloc: Global, schema: Schema, count: usize) -> Result<DataFrame, Fail> 
 
 /// So many rows of the column.
 pub fn table(alloc: Global, count: usize) -> Result<DataFrame, Fail> {
-    rows(alloc, schema(alloc)?, count)
+    table_named(alloc, "a", count)
 }
 
 /// How a query is run that has so many workers and so many rows a morsel at most.
