@@ -1,8 +1,8 @@
 // Plans with a function below a node that may be refused.
 use crate::counting::CountingFunctions;
+use plain_queries::gate::NoGate;
+use plain_queries::query::{run_query, run_query_serial};
 use ps_document::document::{Document, read_document};
-use ps_exec::gate::NoGate;
-use ps_exec::query::{run_query, run_query_serial};
 use ps_frame::column::Column;
 use ps_frame::frame::DataFrame;
 use ps_frame::refusal::PolarsResult;

@@ -14,6 +14,8 @@ mod csv_texts;
 #[cfg(test)]
 mod documents;
 #[cfg(test)]
+mod explaining;
+#[cfg(test)]
 mod reading;
 #[cfg(test)]
 mod runs;

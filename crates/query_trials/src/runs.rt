@@ -1,5 +1,5 @@
 // Runs of the program over sources and sinks in memory.
-use ps_exec::gate::NoGate;
+use plain_queries::gate::NoGate;
 use std::alloc::{AllocError, Global};
 use std::sync::Wait;
 use std::test::Fail;
