@@ -1,3 +1,2 @@
 pub mod Ordering
-pub mod Placing
 pub mod Reading

@@ -1,4 +1,5 @@
 pub mod Begins
+pub mod Complete
 pub mod Containing
 pub mod CutEnds
 pub mod EvalFits

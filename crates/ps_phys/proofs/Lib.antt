@@ -1,3 +1,3 @@
 mod Walking
-mod Places
+pub mod Places
 mod Lines

@@ -109,3 +109,6 @@ pub all-placed : (ks : List PhysNodeKey) (k : ℕ) (places : List (Option ℕ)) 
 all-placed ks k places l placed =
     let P : List PhysNodeKey → Type 0 = λ xs. IsPlaced (numbers_in xs) places in
     placed-done (numbers_in ks) places (length ks) (sym (numbers-length ks)) (subst P (take_all k ks l) placed)
+
+pub placed-whole : (ks : List PhysNodeKey) (k : ℕ) (places : List (Option ℕ)) → length ks ≤ k → IsPlaced (numbers_in (take k ks)) places → IsPlaced (numbers_in ks) places
+placed-whole ks k places l placed = let P : List PhysNodeKey → Type 0 = λ xs. IsPlaced (numbers_in xs) places in subst P (take_all k ks l) placed

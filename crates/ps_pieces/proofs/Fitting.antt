@@ -27,7 +27,7 @@ use Rattle.ps_pieces.specs.Operations.{IsFitFor, Suits, kind_computed, kind_in, 
 use Rattle.ps_pieces.specs.declared.parameters.Operation.{Operation}
 use Rattle.ps_pieces.specs.declared.parameters.Operation.TheVariants as operation
 use Rattle.ps_pieces.specs.declared.parameters.Parameters.{Parameters}
-use Rattle.ps_pieces.proofs.Complete.{all-complete}
+use Rattle.ps_meaning.proofs.Complete.{all-complete}
 
 exprs-named : (f : Node → Tree) (es : List ExprIR) → exprs_of (named_trees f es) ≡ key_trees f es
 exprs-named f [] = refl

@@ -1,5 +1,4 @@
 mod ShortColumns
-mod Complete
 mod Faults
 mod Numbers
 pub mod Fitting

@@ -1,5 +1,5 @@
 use Rattle.std.proofs.Common.{refl}
-use Rattle.plan_readers.proofs.Placing.{placed-known, placed-new}
+use Rattle.ps_phys.proofs.Places.{placed-known, placed-new}
 use Rattle.plan_readers.proofs.places.note_place.Goals as goal
 
 pub returns-then-contains_key-clause-placed : goal.returns-then-contains_key-clause-placed

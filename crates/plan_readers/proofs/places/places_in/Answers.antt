@@ -1,5 +1,5 @@
 use Rattle.std.proofs.Common.{arith}
-use Rattle.plan_readers.proofs.Placing.{placed-next, placed-whole}
+use Rattle.ps_phys.proofs.Places.{placed-next, placed-whole}
 use Rattle.plan_readers.proofs.places.places_in.Goals as goal
 
 pub loop-place-preserved : goal.loop-place-preserved

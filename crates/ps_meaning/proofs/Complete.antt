@@ -1,6 +1,6 @@
 -- What has a kind lacks nothing.
-use Rattle.std.proofs.Common.{◌≡◌, ◌⊎◌, Bool, true, false, not, List, [], ◌∷◌, Option, Some, None, refl, inl, inr}
-use Rattle.std.specs.Prelude.{◌&&◌, ◌||◌, ◌==◌, is_some}
+use Rattle.std.proofs.Common.{◌≡◌, ◌⊎◌, ℕ, Bool, true, false, not, List, [], ◌∷◌, ◌++◌, Option, Some, None, refl, inl, inr, ap, sym, subst, ◌∙◌}
+use Rattle.std.specs.Prelude.{◌&&◌, ◌||◌, ◌==◌, IsTrue, is_some, if◌then◌else◌}
 use Rattle.std.specs.List.{AllByRecursion}
 use Rattle.ps_frame.specs.Tables.{Fields}
 use Rattle.ps_frame.specs.Trees.{Aggregation, AreComplete, IsComplete, Tree, Trees}
@@ -10,9 +10,11 @@ use Rattle.ps_frame.specs.declared.expr.FunctionExpr.TheVariants as fun
 use Rattle.ps_frame.specs.declared.expr.Operator.{Operator}
 use Rattle.ps_frame.specs.declared.value.DataType.{DataType}
 use Rattle.ps_frame.specs.declared.value.DataType.TheVariants as kind
-use Rattle.ps_meaning.specs.Sound.{have_all_kinds}
+use Rattle.ps_meaning.specs.Schemas.{first_schema, second_schema}
+use Rattle.ps_meaning.specs.Sound.{have_all_kinds, have_kinds_over}
+use Rattle.ps_meaning.specs.Steps.{Step, cache, distinct, filter, group_by, hconcat, hstack, join, left_out, project, row_index, scan, select, sink, slice, sort, step_exprs, union, user}
 
-and-parts : (a b : Bool) → (a && b) ≡ true → (a ≡ true) × (b ≡ true)
+pub and-parts : (a b : Bool) → (a && b) ≡ true → (a ≡ true) × (b ≡ true)
 and-parts true b e = (refl, e)
 and-parts false b e = cc
 
@@ -66,7 +68,7 @@ either-some None e = e
 either-some (Some k) e = refl
 
 mutual
-  kind-complete : (s : Fields) (t : Tree) → is_some (kind_over s t) ≡ true → IsComplete t
+  pub kind-complete : (s : Fields) (t : Tree) → is_some (kind_over s t) ≡ true → IsComplete t
   kind-complete s (Tree.column name) e = tt
   kind-complete s (Tree.literal l) e = tt
   kind-complete s (Tree.binary o l r) e = let both = binary-some o (kind_over s l) (kind_over s r) e in (kind-complete s l both.0, kind-complete s r both.1)
@@ -107,3 +109,29 @@ mutual
 pub all-complete : (s : Fields) (ts : List Tree) → have_all_kinds s ts ≡ true → AllByRecursion IsComplete ts
 all-complete s [] e = tt
 all-complete s (t ∷ ts) e = let both = and-parts (is_some (kind_over s t)) (have_all_kinds s ts) e in (kind-complete s t both.0, all-complete s ts both.1)
+
+all-append : (xs ys : List Tree) → AllByRecursion IsComplete xs → AllByRecursion IsComplete ys → AllByRecursion IsComplete (xs ++ ys)
+all-append [] ys a b = b
+all-append (x ∷ xs) ys a b = (a.0, all-append xs ys a.1 b)
+
+-- each expression of a step is whole where each has a kind
+pub step-complete : (ss : List Fields) (step : Step) → have_kinds_over ss step ≡ true → AllByRecursion IsComplete (step_exprs step)
+step-complete ss (scan t ns) e = tt
+step-complete ss (project ns) e = tt
+step-complete ss (select es) e = all-complete (first_schema ss) (step_exprs (select es)) e
+step-complete ss (hstack es) e = all-complete (first_schema ss) (step_exprs (hstack es)) e
+step-complete ss (filter t) e = all-complete (first_schema ss) (t ∷ []) e
+step-complete ss (slice offset n) e = tt
+step-complete ss (sink payload) e = tt
+step-complete ss (row_index name offset) e = tt
+step-complete ss (user n) e = tt
+step-complete ss (sort o) e = all-complete (first_schema ss) o.keys e
+step-complete ss (union cut) e = tt
+step-complete ss hconcat e = tt
+step-complete ss (cache id) e = tt
+step-complete ss (group_by o) e = all-complete (first_schema ss) (step_exprs (group_by o)) e
+step-complete ss (join o) e =
+    let both = and-parts (have_all_kinds (first_schema ss) o.left_on) (have_all_kinds (second_schema ss) o.right_on) e in
+    all-append o.left_on o.right_on (all-complete (first_schema ss) o.left_on both.0) (all-complete (second_schema ss) o.right_on both.1)
+step-complete ss (distinct o) e = tt
+step-complete ss (left_out what) e = tt
