@@ -165,6 +165,43 @@ def one_text(rows, length):
                 [['scan', 0, None], ['hstack', 0, [['t', 0]]], ['filter', 1, 2], ['select', 2, [['a', 3]]], ['slice', 3, 0, 5]])
 
 
+# A few long texts that stand in many rows. They differ in their last byte alone.
+
+TEXTS = 200_000
+
+
+def long_texts(count):
+    return ['x' * TEXTS + chr(ord('a') + i) for i in range(count)]
+
+
+def in_many_rows(rows, exprs, nodes):
+    """Each of two long texts beside each of so many rows, and what is done with them; node 2 has them in the columns text and row."""
+    return plan([[['row', 'int', [i * i % 1_000_003 for i in range(rows)]]], [['text', 'str', long_texts(2)]]], [['col', 'text'], ['col', 'row']] + exprs,
+                [['scan', 0, None], ['scan', 1, None], ['join', 0, 1, 'cross', [], [], None, False, 'm:m', None]] + nodes)
+
+
+def of_texts(rows, *exprs):
+    """A whole expression over them."""
+    return in_many_rows(rows, list(exprs), [['select', 2, [['x', 1 + len(exprs)]]]])
+
+
+def counted(rows, *exprs):
+    """How many rows a whole expression over them has, so that no long text goes out."""
+    return in_many_rows(rows, list(exprs) + [['len']], [['select', 2, [['x', 1 + len(exprs)]]], ['select', 3, [['n', 2 + len(exprs)]]]])
+
+
+def texts_in_groups(rows, functions):
+    """What functions tell of the texts in each of seven groups of rows."""
+    return in_many_rows(rows, [['int', 7], ['mod', 1, 2]] + [[function, 0] for function in functions],
+                        [['group_by', 2, [['key', 3]], [[function, 4 + i] for i, function in enumerate(functions)], True, None], ['project', 3, ['key']]])
+
+
+def beside_text(rows, nodes):
+    """One long text, from the plan, beside each row."""
+    return plan([[['row', 'int', [i * i % 1_000_003 for i in range(rows)]]]], [['col', 'row'], ['str', 'x' * TEXTS], ['col', 'text']],
+                [['scan', 0, None], ['hstack', 0, [['text', 1]]]] + nodes)
+
+
 def deep(operator, depth):
     """An expression of so many operators, each made of the number of the one inside it."""
     exprs = [['col', 'a'], ['bool', True], ['int', 0], ['int', 5]]
@@ -193,6 +230,20 @@ CASES = {
     'fourteen doublings': (lambda n: doublings(n, 14), 20_000),
     'columns that share': (lambda n: shared_by_columns(20_000, n, 28), 1_000),
     'one text in all rows': (lambda n: one_text(n, 500_000), 100_000),
+    'long texts sorted': (lambda n: in_many_rows(n, [], [['sort', 2, [0, 1], [False], [False], None], ['slice', 3, 0, 1]]), 10_000),
+    'long texts in order': (lambda n: counted(n, ['sort', 0, True, False]), 10_000),
+    'long texts by a key': (lambda n: counted(n, ['sort_by', 1, [0, 1], [True, False], [False]]), 10_000),
+    'least and greatest long text': (lambda n: of_texts(n, ['min', 0], ['max', 0], ['lt', 2, 3]), 10_000),
+    'distinct long texts': (lambda n: of_texts(n, ['n_unique', 0]), 10_000),
+    'long texts in groups': (lambda n: texts_in_groups(n, ['min', 'max', 'n_unique']), 10_000),
+    'group-by of long texts': (lambda n: in_many_rows(n, [['sum', 1], ['col', 'key']], [['group_by', 2, [['text', 0]], [['sum', 2]], True, None], ['project', 3, ['sum']]]), 10_000),
+    'distinct of long texts': (lambda n: in_many_rows(n, [], [['distinct', 2, ['text', 'row'], True, 'first', None], ['slice', 3, 0, 1]]), 10_000),
+    'a long text beside rows': (lambda n: beside_text(n, [['distinct', 1, None, True, 'first', None], ['slice', 2, 0, 1]]), 20_000),
+    'a long text beside rows, sorted': (lambda n: beside_text(n, [['sort', 1, [2, 0], [False], [False], None], ['slice', 2, 0, 1]]), 20_000),
+    'join of long texts': (lambda n: in_many_rows(n, [], [['join', 2, 1, 'semi', [0], [0], None, False, 'm:m', None], ['slice', 3, 0, 1]]), 10_000),
+    'long texts reversed': (lambda n: counted(n, ['reverse', 0]), 10_000),
+    'long texts compared': (lambda n: of_texts(n, ['min', 0], ['eq', 0, 2], ['sum', 3]), 10_000),
+    'long texts chosen': (lambda n: of_texts(n, ['str', 'y'], ['lt', 0, 2], ['str', 'z' * TEXTS], ['ternary', 3, 0, 4], ['is_null', 5], ['sum', 6]), 10_000),
     'deep sums': (lambda n: deep(lambda e: ['add', e, 0], n), 253, 256),
     'deep choices': (lambda n: deep(lambda e: ['ternary', 1, e, 0], n), 253, 256),
     'deep slices': (lambda n: deep(lambda e: ['slice', e, 2, 3], n), 253, 256),

@@ -12,4 +12,6 @@ mod operands;
 #[cfg(test)]
 mod operators;
 #[cfg(test)]
+mod picked_texts;
+#[cfg(test)]
 mod words;

@@ -4,7 +4,9 @@ pub mod KeyOrder
 pub mod Led
 pub mod Listed
 pub mod Numbers
+pub mod OneKey
 pub mod Places
+pub mod RankOrder
 pub mod Texts
 pub mod SortKeys
 pub mod Turned

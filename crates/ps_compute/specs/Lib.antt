@@ -2,5 +2,6 @@
 pub mod Led
 pub mod Nullable
 pub mod Orders
+pub mod Ranks
 pub mod Rows
 pub mod Runs

@@ -6,6 +6,7 @@ pub mod casts;
 mod leads;
 pub mod operators;
 pub mod order;
+pub mod ranks;
 pub mod selection;
 pub mod sort_key;
 pub mod values;

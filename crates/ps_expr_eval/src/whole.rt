@@ -9,7 +9,7 @@ ghost use Rattle.ps_frame.specs.declared.value.Value.TheVariants as val;
 
 use crate::computed::{Cells, ComputedColumn, Values, computed_ended, computed_whole};
 use crate::elementwise::{Unary, unary_part};
-use ps_compute::order::{Direction, sorted_values};
+use ps_compute::order::{Direction, sorted_column, sorted_values};
 use ps_compute::selection::{gathered, slice_bounds};
 use ps_frame::expr::FunctionExpr;
 use ps_frame::value::{DataFault, DataType, Value};
@@ -91,10 +91,29 @@ fn sorted_whole(
     ensures kind { IfOk result (λ part. part.dtype ≡ dtype) }
     ensures cells { IfOk result (λ part. Keeps part (whole_column (values_in_order direction (values_of values)))) }
 {
-    match sorted_values(direction, values.into_vec(alloc)?) {
-        Ok(values) => Ok(computed_whole(dtype, values)),
-        // It fails for want of memory alone.
-        Err(_) => Err(AllocError),
+    let values = sorted_of(alloc, direction, values)?;
+    Ok(ComputedColumn {
+        dtype,
+        cells: Cells::Whole(values),
+        fault: None,
+    })
+}
+
+// Values in their stable order; those of a column stay shared.
+fn sorted_of(alloc: Global, direction: Direction, values: Values) -> Result<Values, AllocError>
+    ensures { IfOk result (λ sorted. values_of sorted ≡ values_in_order direction (values_of values)) }
+{
+    match values {
+        Values::Shared(column) => match sorted_column(alloc, direction, &column) {
+            Ok(sorted) => Ok(Values::Shared(sorted)),
+            // It fails for want of memory alone.
+            Err(_) => Err(AllocError),
+        },
+        Values::Owned(values) => match sorted_values(direction, values) {
+            Ok(sorted) => Ok(Values::Owned(sorted)),
+            // It fails for want of memory alone.
+            Err(_) => Err(AllocError),
+        },
     }
 }
 
