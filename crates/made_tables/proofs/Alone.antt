@@ -1,6 +1,6 @@
 -- A map that is no function of the caller's is fit whatever functions there are.
 use Rattle.std.proofs.Common.{◌≡◌, true, false, List, refl, ◌∙◌}
-use Rattle.made_tables.specs.Uncalled.{no_functions}
+use Rattle.bare_nodes.specs.Uncalled.{no_functions}
 use Rattle.pu_base.specs.declared.arena.Node.{Node}
 use Rattle.ps_frame.specs.Functions.{Functions}
 use Rattle.ps_frame.specs.Tables.{Fields, Frame}

@@ -6,8 +6,8 @@ use Rattle.std.proofs.lemmas.List.{length-map}
 use Rattle.std.proofs.lemmas.Option.{same_Some}
 use Rattle.pu_base.specs.declared.arena.Node.{Node}
 use Rattle.made_tables.specs.Joinable.{CanJoin}
-use Rattle.made_tables.specs.Made.{nowhere}
-use Rattle.made_tables.specs.Uncalled.{no_functions}
+use Rattle.bare_nodes.specs.Bare.{nowhere}
+use Rattle.bare_nodes.specs.Uncalled.{no_functions}
 use Rattle.made_tables.specs.Uncalling.{none_lawful}
 use Rattle.ps_frame.specs.Tables.{Fields, Frame, whole}
 use Rattle.ps_frame.specs.Trees.{IsComplete, Tree}

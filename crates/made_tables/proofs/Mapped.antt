@@ -2,7 +2,8 @@
 use Rattle.std.proofs.Common.{◌≡◌, ◌≤◌, List, [], ◌∷◌, ap, inl, inr, length, refl, subst, sym}
 use Rattle.std.specs.Prelude.{Contains}
 use Rattle.made_tables.proofs.Broken.{of_cut}
-use Rattle.made_tables.specs.Made.{MayBreak, bare_node, nowhere}
+use Rattle.bare_nodes.specs.Bare.{bare_node, nowhere}
+use Rattle.made_tables.specs.Made.{MayBreak}
 use Rattle.ps_frame.specs.Aggregates.{max_rows}
 use Rattle.ps_frame.specs.Functions.{Functions}
 use Rattle.ps_frame.specs.Tables.{Fields, Frame, Table, whole}

@@ -14,7 +14,7 @@ use Rattle.ps_meaning.specs.Nodes.{GivesFrame}
 use Rattle.ps_meaning.specs.Schemas.{both as both_of, named_fields, names_of}
 use Rattle.ps_meaning.specs.Sound.{HasFieldsOf}
 use Rattle.ps_meaning.specs.Steps.{Name, project}
-use Rattle.made_tables.specs.Uncalled.{no_functions}
+use Rattle.bare_nodes.specs.Uncalled.{no_functions}
 
 -- what holds of all items holds of each
 all_at : {A : Type 0} (P : A → Type 0) (xs : List A) (x : A) → AllByRecursion P xs → Contains xs x → P x

@@ -1,4 +1,3 @@
-pub mod Uncalled
 pub mod Uncalling
 pub mod Made
 pub mod Joinable

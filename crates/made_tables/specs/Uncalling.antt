@@ -1,7 +1,7 @@
 -- Functions that answer nothing are lawful.
 use Rattle.std.proofs.Common.{◌≡◌, ℕ, true, false}
 use Rattle.ps_frame.specs.Functions.{IsLawful}
-use Rattle.made_tables.specs.Uncalled.{unanswered}
+use Rattle.bare_nodes.specs.Uncalled.{unanswered}
 
 pub none_lawful : (count : ℕ) → IsLawful (unanswered count)
 none_lawful count =

@@ -2,8 +2,9 @@
 ghost use Rattle.std.specs.Prelude.{◌≡◌, ◌∷◌, ◌<◌, [], Err, IfErr, IfOk, OnErr, length};
 ghost use Rattle.std.specs.List.{AllByRecursion};
 ghost use Rattle.made_tables.specs.Joinable.{CanJoin};
-ghost use Rattle.made_tables.specs.Made.{MayBreak, bare_node};
-ghost use Rattle.made_tables.specs.Uncalled.{no_functions};
+ghost use Rattle.bare_nodes.specs.Bare.{bare_node};
+ghost use Rattle.made_tables.specs.Made.{MayBreak};
+ghost use Rattle.bare_nodes.specs.Uncalled.{no_functions};
 ghost use Rattle.ps_frame.specs.Tables.{whole};
 ghost use Rattle.ps_frame.specs.Trees.{IsComplete, tree_at};
 ghost use Rattle.ps_frame.specs.declared.refusal.PolarsError.{PolarsError};

@@ -1,7 +1,8 @@
 //! The table that a map makes of all rows of its input.
 ghost use Rattle.std.specs.Prelude.{◌≡◌, ◌∷◌, [], IfErr, IfOk, false};
-ghost use Rattle.made_tables.specs.Made.{MayBreak, bare_node};
-ghost use Rattle.made_tables.specs.Uncalled.{no_functions};
+ghost use Rattle.bare_nodes.specs.Bare.{bare_node};
+ghost use Rattle.made_tables.specs.Made.{MayBreak};
+ghost use Rattle.bare_nodes.specs.Uncalled.{no_functions};
 ghost use Rattle.ps_frame.specs.Tables.{Fields, whole};
 ghost use Rattle.ps_meaning.specs.Shape.{in_memory_map};
 ghost use Rattle.ps_node_eval.specs.Ready.{IsReady, IsReadyFor};

@@ -13,7 +13,7 @@ pub struct NoFunctions {
 
 impl Functions for NoFunctions {
     ghost use Rattle.std.specs.Prelude.{refl};
-    ghost use Rattle.made_tables.specs.Uncalled.{unanswered};
+    ghost use Rattle.bare_nodes.specs.Uncalled.{unanswered};
     ghost use Rattle.made_tables.specs.Uncalling.{none_lawful};
 
     ghost told = { λ functions. unanswered functions.count };

@@ -21,9 +21,10 @@ use Rattle.ps_phys.specs.declared.phys.PhysNode.{PhysNode}
 use Rattle.ps_phys.specs.declared.phys.PhysNodeKind.{PhysNodeKind}
 use Rattle.ps_phys.specs.declared.phys.PhysNodeKind.TheVariants as phys
 use Rattle.ps_phys.specs.declared.phys.PhysStream.{PhysStream}
-use Rattle.plan_graphs.specs.Made.{IsMadeOf, IsOfSoundShape}
-use Rattle.plan_graphs.specs.Read.{schemas_read}
-use Rattle.plan_graphs.proofs.SoundNodes.{aggregates-reduce, aggregates-whole, equi-whole, filter-whole, function-streams, group-names, independent-whole, join-whole, keys-whole, map-whole, reduce-names, reduce-reduces, reduce-whole, select-whole}
+use Rattle.plan_graphs.specs.Made.{IsMadeOf}
+use Rattle.graph_parts.specs.SoundShapes.{IsOfSoundShape}
+use Rattle.graph_parts.specs.Read.{schemas_read}
+use Rattle.graph_parts.proofs.SoundNodes.{aggregates-reduce, aggregates-whole, equi-whole, filter-whole, function-streams, group-names, independent-whole, join-whole, keys-whole, map-whole, reduce-names, reduce-reduces, reduce-whole, select-whole}
 
 module _ (f : Node → Tree) (slots : List (Option PhysNode)) (s : Fields) where
   abbrev pub IsSoundAt : PhysNodeKind → Type 0

@@ -1,15 +1,12 @@
 -- One node more is put into a graph.
-use Rattle.std.proofs.Common.{◌≡◌, ℕ, zero, suc, ◌+◌, ◌-◌, ◌^◌, ◌<◌, ◌≤◌, Bool, true, false, List, [], ◌∷◌, ◌++◌, Option, None, Some, length, take, refl, ap, sym, subst, ◌∙◌, arith, append_assoc, length-append}
-use Rattle.std.specs.Prelude.{MatchOption, All, map, option_map, slice_get, unwrap_or}
+use Rattle.std.proofs.Common.{◌≡◌, ℕ, ◌+◌, ◌^◌, ◌<◌, ◌≤◌, List, [], ◌∷◌, ◌++◌, Option, Some, length, take, ap, sym, subst, ◌∙◌, arith}
+use Rattle.std.specs.Prelude.{All, map, slice_get}
 use Rattle.std.specs.List.{AllByRecursion, AllZip}
 use Rattle.std.proofs.lemmas.List.Elements.{All-from_recursion}
 use Rattle.keyed_slots.specs.Slots.{value_at}
 use Rattle.pu_base.specs.declared.arena.Node.{Node}
-use Rattle.ps_frame.specs.Functions.{Functions}
 use Rattle.ps_frame.specs.Trees.{Tree}
 use Rattle.ps_meaning.specs.Shape.{PhysicalNode, Shape}
-use Rattle.ps_meaning.specs.Sound.{IsSoundButForReaders, all_inputs}
-use Rattle.ps_ports.specs.Wires.{Wire}
 use Rattle.ps_graph.proofs.Places.{length_there}
 use Rattle.ps_graph.specs.Adding.{fresh_wires}
 use Rattle.ps_graph.specs.Shown.{IsLinked, nodes_of as graph_nodes, values, wire_of, wires_of}
@@ -18,136 +15,22 @@ use Rattle.ps_graph.specs.declared.graph.Graph.{Graph}
 use Rattle.ps_graph.specs.declared.graph.GraphNode.{GraphNode}
 use Rattle.ps_graph.specs.declared.key.GraphNodeKey.{GraphNodeKey}
 use Rattle.ps_nodes.specs.declared.flow.FlowNode.{FlowNode}
-use Rattle.ps_phys.specs.Placed.{IsPlaced}
 use Rattle.ps_phys.specs.Shown.{inputs_of, kind_of, physical_node}
 use Rattle.ps_phys.specs.Underway.{numbers_in}
-use Rattle.ps_phys.specs.Walks.{Stream, place_in, renumbered, renumbered_input}
+use Rattle.ps_phys.specs.Walks.{renumbered, renumbered_input}
 use Rattle.ps_phys.specs.declared.phys.PhysNode.{PhysNode}
 use Rattle.ps_phys.specs.declared.phys.PhysNodeKey.{PhysNodeKey}
-use Rattle.plan_graphs.specs.Keyed.{IsKeyed, key_numbers, port_of}
+use Rattle.graph_parts.specs.Keyed.{IsKeyed, port_of}
 use Rattle.plan_graphs.specs.Made.{IsMadeOf}
-use Rattle.plan_graphs.specs.Read.{schemas_read}
-use Rattle.plan_graphs.specs.Underway.{IsSoundOrder, IsUnderway, ordered}
-use Rattle.plan_graphs.specs.Wiring.{IsMadeIn, blocked_wire, origins_in, wires_from, wires_to}
-use Rattle.plan_graphs.proofs.Ordered.{earlier, map-at, node-stands, numbers-count, place-take, schemas-same}
-
-append-nil : {A : Type 0} (xs : List A) → xs ++ [] ≡ xs
-append-nil [] = refl
-append-nil (x ∷ xs) = ap (λ ys. x ∷ ys) (append-nil xs)
-
-pub map-length : {A B : Type 0} (g : A → B) (xs : List A) → length (map g xs) ≡ length xs
-map-length g [] = refl
-map-length g (x ∷ xs) = ap suc (map-length g xs)
-
-pub take-one : {A : Type 0} (xs : List A) (k : ℕ) (x : A) → slice_get xs k ≡ Some x → take (k + 1) xs ≡ take k xs ++ x ∷ []
-take-one [] k x e = cc
-take-one (y ∷ xs) zero x e = let is : y ≡ x = cc in ap (λ z. z ∷ []) is
-take-one (y ∷ xs) (suc k) x e =
-    let P : ℕ → Type 0 = λ m. take m (y ∷ xs) ≡ y ∷ (take k xs ++ x ∷ []) in
-    let next : suc (k + 1) ≡ suc k + 1 = omega arith in
-    subst P next (ap (λ zs. y ∷ zs) (take-one xs k x e))
-
-pub take-all : {A : Type 0} (xs : List A) (k : ℕ) → length xs ≤ k → take k xs ≡ xs
-take-all [] zero l = refl
-take-all [] (suc k) l = refl
-take-all (x ∷ xs) zero l = absurd (omega (arith, l))
-take-all (x ∷ xs) (suc k) l = ap (λ ys. x ∷ ys) (take-all xs k (omega (arith, l)))
-
-within : {A : Type 0} (xs : List A) (k : ℕ) (x : A) → slice_get xs k ≡ Some x → k < length xs
-within [] k x e = cc
-within (y ∷ xs) zero x e = omega arith
-within (y ∷ xs) (suc k) x e = let rest = within xs k x e in omega (arith, rest)
-
-pub take-count : {A : Type 0} (xs : List A) (k : ℕ) → k ≤ length xs → length (take k xs) ≡ k
-take-count [] zero l = refl
-take-count [] (suc k) l = absurd (omega (arith, l))
-take-count (x ∷ xs) zero l = refl
-take-count (x ∷ xs) (suc k) l = ap suc (take-count xs k (omega (arith, l)))
-
-zip-more : {A B : Type 0} (R : A → B → Type 0) (xs : List A) (ys : List B) (x : A) (y : B) → AllZip R xs ys → R x y → AllZip R (xs ++ x ∷ []) (ys ++ y ∷ [])
-zip-more R [] [] x y all r = (r, tt)
-zip-more R [] (z ∷ ys) x y all r = absurd all
-zip-more R (w ∷ xs) [] x y all r = absurd all
-zip-more R (w ∷ xs) (z ∷ ys) x y all r = (all.0, zip-more R xs ys x y all.1 r)
-
-pub zip-count : {A B : Type 0} (R : A → B → Type 0) (xs : List A) (ys : List B) → AllZip R xs ys → length xs ≡ length ys
-zip-count R [] [] all = refl
-zip-count R [] (z ∷ ys) all = absurd all
-zip-count R (w ∷ xs) [] all = absurd all
-zip-count R (w ∷ xs) (z ∷ ys) all = ap suc (zip-count R xs ys all.1)
-
-origins-more : (ps : Shape) (p : PhysicalNode) → origins_in (ps ++ p ∷ []) ≡ origins_in ps ++ origins_in (p ∷ [])
-origins-more [] p = refl
-origins-more (q ∷ ps) p = ap (λ ns. origins_in (q ∷ []) ++ ns) (origins-more ps p)
-
-wires-more : (n : ℕ) (ps : Shape) (p : PhysicalNode) → wires_from n (ps ++ p ∷ []) ≡ wires_from n ps ++ wires_to (n + length ps) 0 p.inputs
-wires-more n [] p =
-    let same : n ≡ n + 0 = omega arith in
-    append-nil (wires_to n 0 p.inputs) ∙ ap (λ m. wires_to m 0 p.inputs) same
-wires-more n (q ∷ ps) p =
-    let same : n + 1 + length ps ≡ n + suc (length ps) = omega arith in
-    ap (λ ws. wires_to n 0 q.inputs ++ ws) (wires-more (n + 1) ps p ∙ ap (λ m. wires_from (n + 1) ps ++ wires_to m 0 p.inputs) same)
-    ∙ sym (append_assoc (wires_to n 0 q.inputs) (wires_from (n + 1) ps) (wires_to (n + suc (length ps)) 0 p.inputs))
-
-wires-to-count : (r i : ℕ) (is : List Stream) → length (wires_to r i is) ≡ length is
-wires-to-count r i [] = refl
-wires-to-count r i (s ∷ is) = ap suc (wires-to-count r (i + 1) is)
-
-wires-count : (n : ℕ) (ps : Shape) → length (wires_from n ps) ≡ length (all_inputs ps)
-wires-count n [] = refl
-wires-count n (p ∷ ps) =
-    let all = length-append (wires_to n 0 p.inputs) (wires_from (n + 1) ps) in
-    let inputs = length-append p.inputs (all_inputs ps) in
-    let here = wires-to-count n 0 p.inputs in
-    let rest = wires-count (n + 1) ps in
-    omega (arith, all, inputs, here, rest)
-
-inputs-room : (ps : Shape) (k : ℕ) (q : PhysicalNode) → slice_get ps k ≡ Some q → length (all_inputs (take k ps)) + length q.inputs ≤ length (all_inputs ps)
-inputs-room [] k q e = cc
-inputs-room (p ∷ ps) zero q e =
-    let is : p ≡ q = cc in
-    let all = length-append p.inputs (all_inputs ps) in
-    let same = ap (λ (x : PhysicalNode). length x.inputs) is in
-    omega (arith, all, same)
-inputs-room (p ∷ ps) (suc k) q e =
-    let all = length-append p.inputs (all_inputs ps) in
-    let front = length-append p.inputs (all_inputs (take k ps)) in
-    let rest = inputs-room ps k q e in
-    omega (arith, all, front, rest)
-
--- the number of the key that a number got
-pub value-mapped : (keys : List (Option GraphNodeKey)) (n : ℕ) → value_at (key_numbers keys) n ≡ option_map (λ (key : GraphNodeKey). key.0) (value_at keys n)
-value-mapped [] n = refl
-value-mapped (key ∷ keys) zero = refl
-value-mapped (key ∷ keys) (suc n) = value-mapped keys n
-
-keyed-at : (order : List ℕ) (keys : List (Option GraphNodeKey)) (other : GraphNodeKey) (n : ℕ) → IsKeyed order keys → place_in order n < length order → (unwrap_or (value_at keys n) other).0 ≡ place_in order n
-keyed-at order keys other n keyed l = by (value_at keys n) (subst P (value-mapped keys n) (keyed n))
-  where
-    P : Option ℕ → Type 0
-    P o = MatchOption o (place_in order n ≡ length order) (λ p. (place_in order n ≡ p) × (p < length order))
-
-    by : (o : Option GraphNodeKey) → MatchOption (option_map (λ (key : GraphNodeKey). key.0) o) (place_in order n ≡ length order) (λ p. (place_in order n ≡ p) × (p < length order)) → (unwrap_or o other).0 ≡ place_in order n
-    by None h = absurd (omega (arith, h, l))
-    by (Some key) h = sym h.0
-
-module _ (order : List ℕ) (k : ℕ) (keys : List (Option GraphNodeKey)) (other : GraphNodeKey) (l : k ≤ length order) (keyed : IsKeyed (take k order) keys) where
-  number-of-port : (s : Stream) → place_in order s.0 < k → (port_of other keys s).0.0 ≡ place_in order s.0
-  number-of-port s h =
-      let same = place-take order k s.0 h in
-      let count = take-count order k l in
-      keyed-at (take k order) keys other s.0 keyed (omega (arith, same, count, h)) ∙ same
-
-  pub ports-wired : (r i : ℕ) (is : List Stream) → AllByRecursion (λ (s : ℕ × ℕ). s.0 < k) (map (renumbered_input order) is) → fresh_wires r i (map (port_of other keys) is) ≡ wires_to r i (map (renumbered_input order) is)
-  ports-wired r i [] all = refl
-  ports-wired r i (s ∷ is) all =
-      let first = number-of-port s all.0 in
-      let rest = ports-wired r (i + 1) is all.1 in
-      λ j. blocked_wire r i (first j, s.1) ∷ rest j
-
-  pub ports-there : (count : ℕ) → count ≡ k → (is : List Stream) → AllByRecursion (λ (s : ℕ × ℕ). s.0 < k) (map (renumbered_input order) is) → AllByRecursion (λ (p : GraphNodeKey × ℕ). p.0.0 < count) (map (port_of other keys) is)
-  ports-there count e [] all = tt
-  ports-there count e (s ∷ is) all = let first = number-of-port s all.0 in (omega (arith, first, e, all.0), ports-there count e is all.1)
+use Rattle.graph_parts.specs.Read.{schemas_read}
+use Rattle.graph_parts.specs.Orders.{IsSoundOrder, ordered}
+use Rattle.plan_graphs.specs.Underway.{IsUnderway}
+use Rattle.plan_graphs.specs.Wiring.{IsMadeIn}
+use Rattle.graph_parts.specs.Wires.{origins_in, wires_from, wires_to}
+use Rattle.graph_parts.proofs.PortKeys.{ports-there, ports-wired}
+use Rattle.graph_parts.proofs.Lists.{map-length, take-count, take-one, within, zip-count, zip-more}
+use Rattle.graph_parts.proofs.Ordered.{earlier, map-at, node-stands, numbers-count, schemas-same}
+use Rattle.graph_parts.proofs.Wiring.{inputs-room, origins-more, wires-count, wires-more}
 
 module _ (f : Node → Tree) (slots : List (Option PhysNode)) (ks : List PhysNodeKey) (k : ℕ) (key : PhysNodeKey) (p : PhysNode) (g : Graph FlowNode) (keys : List (Option GraphNodeKey)) (sound : IsSoundOrder f slots ks) (l : k < length ks)
     (at : slice_get ks k ≡ Some key) (there : value_at slots key.0 ≡ Some p) (before : IsUnderway (ordered f slots ks) (numbers_in ks) k g keys)

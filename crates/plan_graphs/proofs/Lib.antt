@@ -1,11 +1,6 @@
-pub mod Complete
-pub mod SoundNodes
 pub mod Making
-pub mod Ordered
 pub mod Building
 pub mod Readable
 pub mod Completing
-pub mod Steps
 pub mod Arms
 pub mod Whole
-pub mod Placing

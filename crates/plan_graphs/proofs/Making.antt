@@ -1,5 +1,5 @@
 -- New nodes of a graph are made of what they were given.
-use Rattle.std.proofs.Common.{◌≡◌, ℕ, suc, ◌+◌, Bool, List, [], ◌∷◌, ◌++◌, drop, length, refl, ap, sym, subst, ◌∙◌, arith}
+use Rattle.std.proofs.Common.{◌≡◌, ℕ, ◌+◌, Bool, List, [], ◌∷◌, ◌++◌, drop, length, refl, ap, sym, subst, ◌∙◌, arith}
 use Rattle.std.specs.Prelude.{IfSome, map}
 use Rattle.pu_base.specs.declared.arena.Node.{Node}
 use Rattle.ps_frame.specs.Tables.{Fields, Row}
@@ -9,20 +9,21 @@ use Rattle.ps_meaning.specs.Shape.{PhysicalKind, in_memory_join, in_memory_map, 
 use Rattle.ps_meaning.specs.Steps.{JoinStep, Name, Named, Step, exprs_of, named_trees}
 use Rattle.ps_meaning.specs.declared.options.ExprIR.{ExprIR}
 use Rattle.ps_meaning.specs.declared.options.JoinArgs.{JoinArgs}
-use Rattle.ps_nodes.specs.Cutting.{IsFirstCut}
-use Rattle.ps_nodes.specs.Exprs.{ExprParts, expr_shown, join_shown}
-use Rattle.ps_nodes.specs.Reductions.{reduced}
-use Rattle.ps_nodes.specs.Seen.{IsNew, IsNewJoin, IsNewKeeper, IsNewZip, kind_of}
+use Rattle.plain_nodes.specs.Exprs.{ExprParts, expr_shown, join_shown}
+use Rattle.plain_nodes.specs.Reductions.{reduced}
+use Rattle.plain_nodes.specs.Seen.{IsNewZip}
+use Rattle.ps_nodes.specs.Seen.{IsNew, IsNewJoin, IsNewKeeper}
 use Rattle.ps_nodes.specs.declared.flow.FlowNode.{FlowNode}
 use Rattle.ps_nodes.specs.declared.flow.FlowNode.TheVariants as flow
 use Rattle.ps_nodes.specs.declared.in_memory_join.InMemoryJoinNode.{InMemoryJoinNode}
 use Rattle.ps_nodes.specs.declared.in_memory_map.InMemoryMapNode.{InMemoryMapNode}
-use Rattle.ps_nodes.specs.declared.reduction.Reduction.{Reduction}
-use Rattle.ps_nodes.specs.declared.zip.ZipNode.{ZipNode}
+use Rattle.plain_nodes.specs.declared.reduction.Reduction.{Reduction}
+use Rattle.plain_nodes.specs.declared.zip.ZipNode.{ZipNode}
 use Rattle.ps_phys.specs.Shown.{join_of}
 use Rattle.turn_laws.specs.Updating.{SeenNode}
 use Rattle.plan_graphs.specs.Made.{IsMadeOf, IsNewOf, IsUntold, held_inputs, held_schema}
-use Rattle.plan_graphs.proofs.SoundNodes.{exprs-named, front-names}
+use Rattle.graph_parts.proofs.Lists.{map-length}
+use Rattle.graph_parts.proofs.SoundNodes.{exprs-named, front-names}
 
 -- a node that keeps nothing, of a kind that is told by an equation
 pub is_made : (kind given : PhysicalKind) (s : Fields) (ss : List Fields) (n : FlowNode) → given ≡ kind → IsNew given n → (IsNew kind n → IsNewOf kind s ss n) → IfSome (held_schema n) (λ t. t ≡ s) → IfSome (held_inputs n) (λ ts. ts ≡ ss) → IsUntold n
@@ -75,10 +76,6 @@ drop-all (x ∷ xs) ys = drop-all xs ys
 drop-front : (xs ys : List Name) (k : ℕ) → k ≡ length xs → drop k (xs ++ ys) ≡ ys
 drop-front xs ys k e = ap (λ n. drop n (xs ++ ys)) e ∙ drop-all xs ys
 
-pub map-length : {A B : Type 0} (g : A → B) (xs : List A) → length (map g xs) ≡ length xs
-map-length g [] = refl
-map-length g (x ∷ xs) = ap suc (map-length g xs)
-
 same-length : (f : Node → Tree) (es : List ExprIR) (copies : List ExprParts) → map expr_shown copies ≡ named_trees f es → length copies ≡ length (expr_names (named_trees f es))
 same-length f es copies e = sym (map-length expr_shown copies) ∙ ap length e ∙ sym (map-length (λ (n : Named). n.0) (named_trees f es))
 
@@ -98,12 +95,3 @@ copied_join f left right lefts rights args given l r a =
     let lefts' = ap exprs_of l ∙ exprs-named f left in
     let rights' = ap exprs_of r ∙ exprs-named f right in
     λ i. record { left_on = lefts' i; right_on = rights' i; args = a i }
-
--- one more reduction, under its name
-pub reduced-more : (ns : List Name) (es : List Named) (rs : List Reduction) (n : Name) (e : Named) (r : Reduction) → length ns ≡ length es → length es ≡ length rs → reduced (ns ++ n ∷ []) (es ++ e ∷ []) (rs ++ r ∷ []) ≡ reduced ns es rs ++ reduced (n ∷ []) (e ∷ []) (r ∷ [])
-reduced-more [] [] [] n e r h g = refl
-reduced-more [] [] (q ∷ rs) n e r h g = absurd (omega (arith, g))
-reduced-more [] (d ∷ es) rs n e r h g = absurd (omega (arith, h))
-reduced-more (m ∷ ns) [] rs n e r h g = absurd (omega (arith, h))
-reduced-more (m ∷ ns) (d ∷ es) [] n e r h g = absurd (omega (arith, g))
-reduced-more (m ∷ ns) (d ∷ es) (q ∷ rs) n e r h g = ap (λ xs. reduced (m ∷ []) (d ∷ []) (q ∷ []) ++ xs) (reduced-more ns es rs n e r (omega (arith, h)) (omega (arith, g)))

@@ -14,7 +14,7 @@ use Rattle.ps_meaning.specs.StepRefusals.{IsFileSink, NamesMissingFunction, Need
 use Rattle.ps_meaning.specs.Steps.{JoinStep, Step, cache, distinct, filter, group_by, hconcat, hstack, join, left_out, project, row_index, scan, select, sink, slice, sort, union, user}
 use Rattle.ps_nodes.specs.Fit.{CanMap}
 use Rattle.ps_plan.proofs.TypedSteps.{alike, output-distinct}
-use Rattle.plan_graphs.proofs.Complete.{step-complete}
+use Rattle.ps_meaning.proofs.Complete.{step-complete}
 
 module _ (F : Functions) where
   -- no name stands twice in a node's schema

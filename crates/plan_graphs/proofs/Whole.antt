@@ -1,8 +1,6 @@
 -- A graph from its first node to its last.
-use Rattle.std.proofs.Common.{◌≡◌, ℕ, ◌-◌, ◌^◌, ◌<◌, ◌≤◌, true, false, List, [], ◌∷◌, ◌++◌, Option, None, Some, length, take, refl, ap, sym, subst, ◌∙◌, arith}
-use Rattle.std.specs.Prelude.{IsSome, is_some, map, option_map}
+use Rattle.std.proofs.Common.{◌≡◌, ℕ, ◌-◌, ◌^◌, ◌<◌, List, [], Option, length, take, ap, sym, subst, ◌∙◌, arith}
 use Rattle.std.specs.List.{AllZip}
-use Rattle.keyed_slots.specs.Slots.{Updates, value_at}
 use Rattle.pu_base.specs.declared.arena.Node.{Node}
 use Rattle.ps_frame.specs.Functions.{Functions}
 use Rattle.ps_frame.specs.Trees.{Tree}
@@ -13,41 +11,20 @@ use Rattle.ps_graph.specs.Turning.{origins_of}
 use Rattle.ps_graph.specs.declared.graph.Graph.{Graph}
 use Rattle.ps_graph.specs.declared.key.GraphNodeKey.{GraphNodeKey}
 use Rattle.ps_nodes.specs.declared.flow.FlowNode.{FlowNode}
-use Rattle.plan_graphs.proofs.Placing.{none-placed, placed-known, placed-new}
+use Rattle.ps_phys.proofs.Places.{none-placed}
 use Rattle.ps_phys.specs.Shown.{nodes_of, shown}
 use Rattle.ps_phys.specs.Underway.{AreThere, numbers_in}
 use Rattle.ps_phys.specs.Walks.{node_at, order_from, renumbered, shape_in}
 use Rattle.ps_phys.specs.declared.phys.PhysNode.{PhysNode}
 use Rattle.ps_phys.specs.declared.phys.PhysNodeKey.{PhysNodeKey}
-use Rattle.plan_graphs.specs.Keyed.{IsKeyed, key_numbers}
-use Rattle.plan_graphs.specs.Underway.{IsSoundOrder, IsUnderway, ordered}
-use Rattle.plan_graphs.specs.Wiring.{IsBuiltOf, IsMadeIn, origins_in, wires_from}
-use Rattle.plan_graphs.proofs.Building.{map-length, take-all, value-mapped}
-use Rattle.plan_graphs.proofs.Ordered.{numbers-count}
+use Rattle.graph_parts.specs.Keyed.{IsKeyed}
+use Rattle.graph_parts.specs.Orders.{IsSoundOrder, ordered}
+use Rattle.plan_graphs.specs.Underway.{IsUnderway}
+use Rattle.plan_graphs.specs.Wiring.{IsBuiltOf, IsMadeIn}
+use Rattle.graph_parts.specs.Wires.{origins_in, wires_from}
+use Rattle.graph_parts.proofs.Lists.{map-length, take-all}
+use Rattle.graph_parts.proofs.Ordered.{numbers-count}
 
--- KEYS
-pub key_known : (before : List ℕ) (keys : List (Option GraphNodeKey)) (n : ℕ) → IsKeyed before keys → IsSome (value_at keys n) → IsKeyed (before ++ n ∷ []) keys
-key_known before keys n keyed known = placed-known before (key_numbers keys) n keyed (some-mapped (value_at keys n) (value_at (key_numbers keys) n) (value-mapped keys n) known)
-  where
-    some-mapped : (o : Option GraphNodeKey) (m : Option ℕ) → m ≡ option_map (λ (key : GraphNodeKey). key.0) o → IsSome o → IsSome m
-    some-mapped None m e s = cc
-    some-mapped (Some key) m e s = ap is_some e
-
-pub key_new : (before : List ℕ) (keys new : List (Option GraphNodeKey)) (n : ℕ) (key : GraphNodeKey) → IsKeyed before keys → (IsSome (value_at keys n) → false ≡ true) → key.0 ≡ length before → Updates keys new n (Some key) → IsKeyed (before ++ n ∷ []) new
-key_new before keys new n key keyed unknown size updates = placed-new before (key_numbers keys) (key_numbers new) n key.0 keyed (λ s. unknown (some-unmapped (value_at keys n) (value_at (key_numbers keys) n) (value-mapped keys n) s)) size mapped
-  where
-    some-unmapped : (o : Option GraphNodeKey) (m : Option ℕ) → m ≡ option_map (λ (key : GraphNodeKey). key.0) o → IsSome m → IsSome o
-    some-unmapped None m e s = sym (ap is_some e) ∙ s
-    some-unmapped (Some key) m e s = refl
-
-    mapped : Updates (key_numbers keys) (key_numbers new) n (Some key.0)
-    mapped =
-        record {
-          changed = value-mapped new n ∙ ap (option_map (λ (k : GraphNodeKey). k.0)) updates.changed;
-          others = λ m d. value-mapped new m ∙ ap (option_map (λ (k : GraphNodeKey). k.0)) (updates.others m d) ∙ sym (value-mapped keys m);
-        }
-
--- THE WHOLE
 module _ (f : Node → Tree) (slots : List (Option PhysNode)) (ks : List PhysNodeKey) (root : ℕ) (order : numbers_in ks ≡ order_from (nodes_of f slots) root) where
   same-shape : ordered f slots ks ≡ shown f slots root
   same-shape = ap (λ o. shape_in o (nodes_of f slots)) order

@@ -1,12 +1,11 @@
 -- What the nodes of a graph hold of the physical nodes that they are made of, and what a new one is.
 use Rattle.std.specs.Prelude.{◌≡◌, ℕ, Bool, false, List, [], ◌∷◌, length, Option, None, Some, IfSome, ⊤}
-use Rattle.ps_frame.specs.Functions.{Functions}
 use Rattle.ps_frame.specs.Tables.{Fields}
 use Rattle.ps_meaning.specs.Schemas.{first_schema, second_schema}
-use Rattle.ps_meaning.specs.Shape.{PhysicalKind, PhysicalNode, Shape, in_memory_join, in_memory_map, negative_slice, zip_node}
-use Rattle.ps_meaning.specs.Sound.{IsFitNode, input_schemas}
-use Rattle.ps_nodes.specs.Cutting.{IsFirstCut}
-use Rattle.ps_nodes.specs.Seen.{IsNew, IsNewJoin, IsNewKeeper, IsNewZip, kind_of}
+use Rattle.ps_meaning.specs.Shape.{PhysicalKind, in_memory_join, in_memory_map, negative_slice, zip_node}
+use Rattle.plain_nodes.specs.Cutting.{IsFirstCut}
+use Rattle.plain_nodes.specs.Seen.{IsNewZip}
+use Rattle.ps_nodes.specs.Seen.{IsNew, IsNewJoin, IsNewKeeper, kind_of}
 use Rattle.ps_nodes.specs.declared.flow.FlowNode.{FlowNode}
 use Rattle.ps_nodes.specs.declared.flow.FlowNode.TheVariants as flow
 
@@ -58,14 +57,3 @@ pub record IsMadeOf (kind : PhysicalKind) (schema : Fields) (ss : List Fields) (
   pub holds_inputs : IfSome (held_inputs n) (λ ts. ts ≡ ss)
   pub new : IsNewOf kind schema ss n
   pub untold : IsUntold n
-
--- some node of a sound shape is of this kind, has this schema, and inputs of these schemas
-pub record IsOfSoundShape (kind : PhysicalKind) (schema : Fields) (ss : List Fields) : Type 0 where
-  pub functions : Functions
-  pub shape : Shape
-  pub number : ℕ
-  pub node : PhysicalNode
-  pub fit : IsFitNode functions shape number node
-  pub of_kind : node.kind ≡ kind
-  pub of_schema : node.schema ≡ schema
-  pub inputs : input_schemas shape node ≡ ss

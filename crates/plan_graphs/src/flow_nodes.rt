@@ -3,8 +3,9 @@ ghost use Rattle.std.specs.Prelude.{◌≡◌, Err, IfOk, OnErr};
 ghost use Rattle.ps_frame.specs.Trees.{tree_at};
 ghost use Rattle.ps_frame.specs.declared.refusal.PolarsError.{PolarsError};
 ghost use Rattle.ps_phys.specs.Shown.{inputs_of, kind_of};
-ghost use Rattle.plan_graphs.specs.Made.{IsMadeOf, IsOfSoundShape};
-ghost use Rattle.plan_graphs.specs.Read.{schemas_read};
+ghost use Rattle.plan_graphs.specs.Made.{IsMadeOf};
+ghost use Rattle.graph_parts.specs.SoundShapes.{IsOfSoundShape};
+ghost use Rattle.graph_parts.specs.Read.{schemas_read};
 
 use crate::kinds;
 use keyed_slots::SlotMap;

@@ -1,5 +1,5 @@
 //! The graph that a physical plan becomes.
-ghost use Rattle.std.specs.Prelude.{◌≡◌, ◌<◌, ◌+◌, ◌-◌, ◌^◌, ◌++◌, ◌∷◌, [], ℕ, List, Err, IfOk, IsSome, OnErr, OnOk, length, map};
+ghost use Rattle.std.specs.Prelude.{◌≡◌, ◌<◌, ◌+◌, ◌-◌, ◌^◌, Err, IfOk, IsSome, OnErr, OnOk, length, map};
 ghost use Rattle.keyed_slots.specs.Slots.{value_at};
 ghost use Rattle.ps_frame.specs.Functions.{Functions};
 ghost use Rattle.ps_frame.specs.Trees.{tree_at};
@@ -8,68 +8,26 @@ ghost use Rattle.ps_meaning.specs.Sound.{IsSound, all_inputs};
 ghost use Rattle.ps_graph.specs.Complete.{IsComplete};
 ghost use Rattle.ps_graph.specs.Shown.{IsLinked, standing_of};
 ghost use Rattle.ps_nodes.specs.Seen.{HasPorts};
-ghost use Rattle.ps_phys.specs.Shown.{ReadsWhatIsThere, inputs_of, nodes_of, shown};
-ghost use Rattle.ps_phys.specs.Underway.{AreThere, numbers_in};
+ghost use Rattle.ps_phys.specs.Shown.{ReadsWhatIsThere, nodes_of, shown};
+ghost use Rattle.ps_phys.specs.Underway.{numbers_in};
 ghost use Rattle.ps_phys.specs.Walks.{order_from};
-ghost use Rattle.plan_graphs.specs.Keyed.{IsKeyed, port_of};
-ghost use Rattle.plan_graphs.specs.Underway.{IsSoundOrder, IsUnderway, ordered};
+ghost use Rattle.graph_parts.specs.Keyed.{IsKeyed};
+ghost use Rattle.graph_parts.specs.Orders.{IsSoundOrder, ordered};
+ghost use Rattle.plan_graphs.specs.Underway.{IsUnderway};
 ghost use Rattle.plan_graphs.specs.Wiring.{IsBuiltOf};
 
 use crate::flow_nodes::flow_node;
-use keyed_slots::{Key, SecondaryMap, SlotMap};
+use graph_parts::keys::{Keys, note, ports};
+use keyed_slots::{SecondaryMap, SlotMap};
 use ps_frame::expr::AExpr;
 use ps_frame::refusal::PolarsResult;
 use ps_graph::graph::Graph;
 use ps_graph::key::GraphNodeKey;
 use ps_nodes::flow::FlowNode;
 use ps_phys::order::leaving_order;
-use ps_phys::phys::{PhysNode, PhysNodeKey, PhysNodeKind, PhysStream};
+use ps_phys::phys::{PhysNode, PhysNodeKey};
 use pu_base::Arena;
 use std::alloc::Global;
-
-/// Which nodes of a graph physical nodes became.
-type Keys = SecondaryMap<PhysNodeKey, GraphNodeKey>;
-
-/// The port that a stream became; one of a node that isn't there where its node became none.
-fn port(keys: &Keys, input: PhysStream) -> (GraphNodeKey, usize)
-    ensures { result ≡ port_of (record { 0 = 2 ^ 32 - 1 }) keys.now.slots (input.node.0, input.port) }
-{
-    match keys.get(input.node) {
-        Some(key) => (*key, input.port),
-        None => (GraphNodeKey::null(), input.port),
-    }
-}
-
-/// The ports that the inputs of a node became, in order.
-fn ports(
-    alloc: Global,
-    keys: &Keys,
-    kind: &PhysNodeKind,
-) -> PolarsResult<Vec<(GraphNodeKey, usize)>>
-    ensures ports { IfOk result (λ ports. ports.items ≡ map (port_of (record { 0 = 2 ^ 32 - 1 }) keys.now.slots) (inputs_of kind.now)) }
-    ensures memory { OnErr result (result ≡ Err PolarsError.OutOfMemory) }
-{
-    let mut ports = Vec::new(alloc);
-    let mut place = 0;
-    while let Some(input) = kind.input(place) {
-        let sender = port(keys, input);
-        ports.push(sender)?;
-        place += 1;
-    }
-    Ok(ports)
-}
-
-/// Notes the key of a physical node behind those that have theirs, unless it stands among them.
-fn note(keys: &mut Keys, node: PhysNodeKey, key: GraphNodeKey) -> PolarsResult<()>
-    ensures keyed { (before : List ℕ) → key.0 ≡ length before → IsKeyed before keys.old.slots → OnOk result (IsKeyed (before ++ node.0 ∷ []) keys.new.slots) }
-    ensures memory { OnErr result (result ≡ Err PolarsError.OutOfMemory) }
-{
-    if keys.contains_key(node) {
-        return Ok(());
-    }
-    keys.insert(node, key)?;
-    Ok(())
-}
 
 /// Adds the node of a place of an order to the graph of those before it.
 fn add_next(

@@ -14,11 +14,11 @@ ghost use Rattle.ps_meaning.specs.Sound.{IsFunctionStep, IsReduction};
 ghost use Rattle.ps_meaning.specs.Steps.{key_trees, named_trees, sort_step, step_exprs};
 ghost use Rattle.ps_phys.specs.Shown.{back_from, join_of, stream_of, streams_of};
 ghost use Rattle.plan_graphs.specs.Made.{IsMadeOf};
-ghost use Rattle.plan_graphs.specs.Read.{schemas_read};
+ghost use Rattle.graph_parts.specs.Read.{schemas_read};
 
-use crate::columns::{cloned, copied};
-use crate::reductions::Reductions;
-use crate::schemas::{schema_of, schemas_of, shared, shared_table};
+use graph_parts::columns::{cloned, copied};
+use graph_parts::reductions::Reductions;
+use graph_parts::schemas::{schema_of, schemas_of, shared, shared_table};
 use keyed_slots::SlotMap;
 use ps_frame::expr::AExpr;
 use ps_frame::frame::DataFrame;

@@ -1,7 +1,7 @@
 -- What an update finds by the table that it would make is found by the definitions of a run.
 use Rattle.std.proofs.Common.{Bool, true, false, ◌&&◌, inl, inr, not, refl}
 use Rattle.std.specs.Prelude.{IsTrue, ◌||◌}
-use Rattle.made_tables.specs.Uncalled.{no_functions}
+use Rattle.bare_nodes.specs.Uncalled.{no_functions}
 use Rattle.ps_frame.specs.Causes.{Cause}
 use Rattle.ps_nodes.specs.Seen.{Finds, kind_of, options_of, progress_of, seen}
 use Rattle.ps_nodes.specs.declared.flow.FlowNode.{FlowNode}

@@ -2,14 +2,14 @@
 use Rattle.std.proofs.Common.{◌≡◌, Bool, true, false, ◌&&◌, List, [], ◌∷◌, ◌++◌, Some, ap, append-nil, not, refl, subst, sym, ◌∙◌}
 use Rattle.std.specs.List.{AllByRecursion}
 use Rattle.made_tables.specs.Joinable.{CanJoin}
-use Rattle.made_tables.specs.Made.{bare_node}
-use Rattle.made_tables.specs.Uncalled.{no_functions}
+use Rattle.bare_nodes.specs.Bare.{bare_node}
+use Rattle.bare_nodes.specs.Uncalled.{no_functions}
 use Rattle.ps_frame.specs.Tables.{Fields, Frame, Row, Table, whole}
 use Rattle.ps_frame.specs.Trees.{IsComplete, Tree}
 use Rattle.ps_meaning.specs.Cases.{rows_table}
 use Rattle.ps_meaning.specs.Shape.{in_memory_join}
 use Rattle.ps_meaning.specs.Steps.{JoinStep}
-use Rattle.ps_nodes.proofs.Turning.{begins}
+use Rattle.plain_nodes.proofs.Turning.{begins}
 use Rattle.ps_options.specs.declared.options.Options.{Options}
 use Rattle.ps_plan.proofs.TypedKinds.{all-left, all-right}
 use Rattle.ps_ports.specs.Ports.{Sides}

@@ -10,7 +10,7 @@ use Rattle.ps_joins.specs.JoinOf.{join_of}
 use Rattle.ps_meaning.specs.Steps.{JoinStep, exprs_of, key_trees}
 use Rattle.ps_meaning.specs.declared.options.ExprIR.{ExprIR}
 use Rattle.ps_meaning.specs.declared.options.JoinArgs.{JoinArgs}
-use Rattle.ps_nodes.specs.Exprs.{ExprParts, expr_shown, join_shown}
+use Rattle.plain_nodes.specs.Exprs.{ExprParts, expr_shown, join_shown}
 
 abbrev pub trees_shown : List ExprParts → List Tree
 trees_shown ks = exprs_of (map expr_shown ks)

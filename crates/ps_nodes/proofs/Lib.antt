@@ -1,6 +1,4 @@
-mod Turning
 mod Updated
-mod Stores
 mod MapTurn
 mod JoinTurn
 mod KeyCopies

@@ -1,7 +1,7 @@
 -- A map that begins to give: it makes its table, unless that is filled in from outside.
 use Rattle.std.proofs.Common.{◌≡◌, Bool, true, false, ◌&&◌, List, [], ◌∷◌, ◌++◌, Some, ap, ap₂, append-nil, append_assoc, inl, inr, not, refl, subst, sym, ◌∙◌}
-use Rattle.made_tables.specs.Made.{bare_node}
-use Rattle.made_tables.specs.Uncalled.{no_functions}
+use Rattle.bare_nodes.specs.Bare.{bare_node}
+use Rattle.bare_nodes.specs.Uncalled.{no_functions}
 use Rattle.ps_frame.specs.Tables.{Fields, Frame, Row, whole}
 use Rattle.ps_frame.specs.declared.refusal.PolarsError.TheVariants as error
 use Rattle.ps_meaning.specs.Cases.{rows_table}
@@ -9,7 +9,7 @@ use Rattle.ps_meaning.specs.Schemas.{output_schema}
 use Rattle.ps_meaning.specs.Shape.{in_memory_map}
 use Rattle.ps_meaning.specs.Steps.{Step, user}
 use Rattle.ps_node_eval.specs.Ready.{IsReady}
-use Rattle.ps_nodes.proofs.Turning.{begins, goes_on}
+use Rattle.plain_nodes.proofs.Turning.{begins, goes_on}
 use Rattle.ps_nodes.specs.Fit.{CanMap}
 use Rattle.ps_options.specs.declared.options.Options.{Options}
 use Rattle.ps_owned_maps.specs.Owned.{is_function}

@@ -1,6 +1,6 @@
 -- The updates of a graph's nodes keep the laws by which a graph comes to rest.
 use Rattle.std.proofs.Common.{◌≡◌, refl, sym, subst, ◌∙◌}
-use Rattle.made_tables.specs.Uncalled.{no_functions}
+use Rattle.bare_nodes.specs.Uncalled.{no_functions}
 use Rattle.ps_nodes.specs.Seen.{Updates, options_of, seen}
 use Rattle.ps_nodes.specs.declared.flow.FlowNode.{FlowNode}
 use Rattle.ps_options.specs.declared.options.Options.{Options}

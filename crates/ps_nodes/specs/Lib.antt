@@ -1,8 +1,5 @@
-pub mod Exprs
-pub mod Reductions
-pub mod Kept
-pub mod Cutting
+pub mod Forms
+pub mod Fit
 pub mod Seen
 pub mod FlowLaws
 pub mod Told
-pub mod Fit

@@ -1,8 +1,8 @@
 -- What the nodes of a graph are called, what they become that are told how many pieces of work may go on, and what they give as an answer.
 use Rattle.std.specs.Prelude.{◌≡◌, ℕ, List, Option, Some, None, codes}
 use Rattle.ps_frame.specs.Tables.{Row}
-use Rattle.ps_nodes.specs.Cutting.{IsCutFor}
-use Rattle.ps_nodes.specs.Kept.{rows_kept}
+use Rattle.plain_nodes.specs.Cutting.{IsCutFor}
+use Rattle.plain_nodes.specs.Kept.{rows_kept}
 use Rattle.ps_nodes.specs.declared.flow.FlowNode.{FlowNode}
 use Rattle.ps_nodes.specs.declared.flow.FlowNode.TheVariants as flow
 

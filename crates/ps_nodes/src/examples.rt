@@ -1,21 +1,11 @@
 //! Worked examples, as theorems of functions that do nothing.
-ghost use Rattle.std.specs.Prelude.{◌≡◌, ◌∷◌, [], None, codes};
-ghost use Rattle.ps_frame.specs.declared.value.Value.TheVariants as value;
-ghost use Rattle.ps_frame.specs.Trees.{aggregate, column, len, max, sum};
+ghost use Rattle.std.specs.Prelude.{◌≡◌, [], None, codes};
+ghost use Rattle.plain_nodes.specs.Seen.{node_seen, nothing_behind};
 ghost use Rattle.ps_meaning.specs.Shape.{stream_map, streaming_slice};
 ghost use Rattle.ps_meaning.specs.Steps.{user};
-ghost use Rattle.ps_nodes.specs.Reductions.{reduced, reduction_tree};
-ghost use Rattle.ps_nodes.specs.Seen.{all_in_first, kind_of, node_seen, nothing_behind, seen};
+ghost use Rattle.ps_nodes.specs.Seen.{kind_of, seen};
 ghost use Rattle.ps_nodes.specs.Told.{IsToldOf, answer_kept, word_of};
 ghost use Rattle.ps_nodes.specs.declared.flow.FlowNode.TheVariants as flow;
-ghost use Rattle.ps_nodes.specs.declared.reduction.Reduction.TheVariants as reduction;
-
-/// What reductions make of a column, and those of a list of columns, by the names of their results.
-pub fn reductions()
-    ensures sum { reduction_tree reduction.Sum (column (codes "a")) ≡ aggregate sum (column (codes "a")) }
-    ensures len { reduction_tree reduction.Len (column (codes "a")) ≡ len }
-    ensures both { reduced (codes "x" ∷ codes "y" ∷ []) ((codes "a", column (codes "a")) ∷ (codes "b", column (codes "b")) ∷ []) (reduction.Max ∷ reduction.Len ∷ []) ≡ (codes "x", aggregate max (column (codes "a"))) ∷ (codes "y", len) ∷ [] }
-{}
 
 /// What updates see of nodes: a map by its function alone, a slice that booked three rows.
 pub fn seen_nodes()
@@ -29,10 +19,4 @@ pub fn told_nodes()
     ensures word { word_of (flow.Map (record { function = 2 })) ≡ codes "map" }
     ensures others { IsToldOf (flow.Map (record { function = 2 })) 3 (flow.Map (record { function = 2 })) }
     ensures no_answer { answer_kept (flow.Map (record { function = 2 })) ≡ None }
-{}
-
-/// Lists of keys of which the first holds all.
-pub fn lists_of_keys()
-    ensures three { all_in_first ((value.IdxSize 4 ∷ []) ∷ []) 3 ≡ ((value.IdxSize 4 ∷ []) ∷ []) ∷ [] ∷ [] ∷ [] }
-    ensures none { all_in_first ((value.IdxSize 4 ∷ []) ∷ []) 0 ≡ [] }
 {}

@@ -8,26 +8,26 @@ ghost use Rattle.ps_nodes.specs.Seen.{Faults as FaultsOf, HasPorts as HasPortsOf
 ghost use Rattle.ps_nodes.specs.Told.{IsToldOf, answer_kept, without_answer, word_of};
 ghost use Rattle.turn_laws.specs.Updating.{stages_behind as stages_seen};
 
-use crate::equi_join::EquiJoinNode;
-use crate::filter::FilterNode;
-use crate::group_by::GroupByNode;
 use crate::in_memory_join::InMemoryJoinNode;
 use crate::in_memory_map::InMemoryMapNode;
-use crate::independent_select::InputIndependentSelectNode;
-use crate::map::MapNode;
-use crate::multiplexer::MultiplexerNode;
-use crate::negative_slice::NegativeSliceNode;
-use crate::ordered_union::OrderedUnionNode;
-use crate::projection::SimpleProjectionNode;
-use crate::reduce::ReduceNode;
-use crate::row_index::WithRowIndexNode;
-use crate::select::SelectNode;
-use crate::sink::InMemorySinkNode;
-use crate::slice::StreamingSliceNode;
-use crate::source::InMemorySourceNode;
-use crate::zip::ZipNode;
 use node_states::passing;
 use node_states::stage::Stage;
+use plain_nodes::equi_join::EquiJoinNode;
+use plain_nodes::filter::FilterNode;
+use plain_nodes::group_by::GroupByNode;
+use plain_nodes::independent_select::InputIndependentSelectNode;
+use plain_nodes::map::MapNode;
+use plain_nodes::multiplexer::MultiplexerNode;
+use plain_nodes::negative_slice::NegativeSliceNode;
+use plain_nodes::ordered_union::OrderedUnionNode;
+use plain_nodes::projection::SimpleProjectionNode;
+use plain_nodes::reduce::ReduceNode;
+use plain_nodes::row_index::WithRowIndexNode;
+use plain_nodes::select::SelectNode;
+use plain_nodes::sink::InMemorySinkNode;
+use plain_nodes::slice::StreamingSliceNode;
+use plain_nodes::source::InMemorySourceNode;
+use plain_nodes::zip::ZipNode;
 use ps_frame::frame::DataFrame;
 use ps_frame::refusal::{PolarsError, PolarsResult};
 use ps_graph::compute_node::ComputeNode;
@@ -119,15 +119,15 @@ impl ComputeNode for FlowNode {
         }
     }
 
-    #[tactic(auto, using(crate::proofs::Turning::same_count))]
+    #[tactic(auto, using(plain_nodes::proofs::Turning::same_count))]
     fn stages_behind(&self) -> usize {
         match self {
-            FlowNode::NegativeSlice(node) => node.stage.behind(),
-            FlowNode::Reduce(node) => node.stage.behind(),
-            FlowNode::GroupBy(node) => node.stage.behind(),
+            FlowNode::NegativeSlice(node) => node.stage().behind(),
+            FlowNode::Reduce(node) => node.stage().behind(),
+            FlowNode::GroupBy(node) => node.stage().behind(),
             FlowNode::InMemoryMap(node) => node.stage.behind(),
             FlowNode::InMemoryJoin(node) => node.stage.behind(),
-            FlowNode::EquiJoin(node) => node.stage.behind(),
+            FlowNode::EquiJoin(node) => node.stage().behind(),
             _ => 0,
         }
     }
@@ -193,11 +193,11 @@ impl ComputeNode for FlowNode {
     fn is_memory_intensive_pipeline_blocker(&self) -> bool {
         match self {
             FlowNode::InMemorySink(_) => true,
-            FlowNode::NegativeSlice(node) => node.stage == Stage::Taking,
-            FlowNode::GroupBy(node) => node.stage == Stage::Taking,
+            FlowNode::NegativeSlice(node) => node.stage() == Stage::Taking,
+            FlowNode::GroupBy(node) => node.stage() == Stage::Taking,
             FlowNode::InMemoryMap(node) => node.stage == Stage::Taking,
             FlowNode::InMemoryJoin(node) => node.stage == Stage::Taking,
-            FlowNode::EquiJoin(node) => node.stage == Stage::Taking,
+            FlowNode::EquiJoin(node) => node.stage() == Stage::Taking,
             _ => false,
         }
     }

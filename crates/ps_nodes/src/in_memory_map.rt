@@ -1,7 +1,8 @@
 //! The map over a whole table.
 ghost use Rattle.std.specs.Prelude.{◌≡◌, ◌≢◌, ◌&&◌, ◌+◌, ◌∷◌, ◌<◌, ◌≤◌, ◌⊎◌, ◌^◌, [], Err, IfErr, IsTrue, OnErr, OnOk, false, length, not};
-ghost use Rattle.made_tables.specs.Made.{MayBreak, bare_node};
-ghost use Rattle.made_tables.specs.Uncalled.{no_functions};
+ghost use Rattle.bare_nodes.specs.Bare.{bare_node};
+ghost use Rattle.made_tables.specs.Made.{MayBreak};
+ghost use Rattle.bare_nodes.specs.Uncalled.{no_functions};
 ghost use Rattle.node_states.specs.Stages.{stage_of};
 ghost use Rattle.node_states.specs.Views.{sides_of};
 ghost use Rattle.ps_frame.specs.Aggregates.{max_rows};
@@ -11,7 +12,7 @@ ghost use Rattle.ps_frame.specs.declared.error.FrameError.{FrameError};
 ghost use Rattle.ps_frame.specs.declared.refusal.PolarsError.{PolarsError};
 ghost use Rattle.ps_meaning.specs.Shape.{in_memory_map};
 ghost use Rattle.ps_node_eval.specs.Ready.{IsReadyFor};
-ghost use Rattle.ps_nodes.specs.Cutting.{IsCutFor, IsFirstCut};
+ghost use Rattle.plain_nodes.specs.Cutting.{IsCutFor, IsFirstCut};
 ghost use Rattle.ps_nodes.specs.Fit.{CanMap};
 ghost use Rattle.ps_nodes.specs.Seen.{Faults, HasInputsOf, IsNewKeeper, Updates, progress_of};
 ghost use Rattle.ps_nodes.specs.declared.flow.FlowNode.TheVariants as flow;
@@ -21,12 +22,12 @@ ghost use Rattle.ps_turns.specs.Progress.{is_giving};
 ghost use Rattle.ps_turns.specs.Pulls.{after_store};
 ghost use Rattle.ps_turns.specs.Updates.{Fills, Turns, is_filled, is_waiting, stage_after, stored_tables};
 
-use crate::made::MadeTable;
-use crate::starting::begins;
 use kept_tables::stored_rows::StoredRows;
 use made_tables::map_tables::{mapped, mapped_alone};
 use node_states::keeper::{self, KeeperState};
 use node_states::stage::Stage;
+use plain_nodes::made::MadeTable;
+use plain_nodes::starting::begins;
 use ps_frame::error::FrameError;
 use ps_frame::frame::DataFrame;
 use ps_frame::functions::Functions;

@@ -5,11 +5,11 @@ ghost use Rattle.ps_copies.specs.Copies.{KeepsTrees};
 ghost use Rattle.ps_frame.specs.Trees.{IsComplete, tree_at};
 ghost use Rattle.ps_frame.specs.declared.refusal.PolarsError.{PolarsError};
 ghost use Rattle.ps_meaning.specs.Steps.{exprs_of, key_trees};
-ghost use Rattle.ps_nodes.specs.Exprs.{expr_shown, join_shown};
+ghost use Rattle.plain_nodes.specs.Exprs.{expr_shown, join_shown};
 ghost use Rattle.ps_joins.specs.JoinOf.{join_of};
 ghost use Rattle.ps_meaning.specs.declared.options.JoinArgs.{JoinArgs};
 
-use crate::stream_expr::StreamExpr;
+use plain_nodes::stream_expr::StreamExpr;
 use ps_frame::expr::AExpr;
 use ps_frame::refusal::PolarsResult;
 use ps_meaning::options::ExprIR;

@@ -1,5 +1,5 @@
 //! Laws of the nodes of a graph, as theorems of functions that do nothing.
-ghost use Rattle.made_tables.specs.Uncalled.{no_functions};
+ghost use Rattle.bare_nodes.specs.Uncalled.{no_functions};
 ghost use Rattle.ps_frame.specs.Causes.{Cause};
 ghost use Rattle.ps_nodes.specs.Seen.{Finds, options_of, seen};
 ghost use Rattle.ps_nodes.specs.declared.flow.FlowNode.{FlowNode};

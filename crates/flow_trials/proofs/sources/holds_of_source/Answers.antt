@@ -1,6 +1,6 @@
 -- Of a new source none were claimed.
 use Rattle.std.proofs.Common.{◌≡◌, ap, ◌∙◌, arith}
-use Rattle.ps_nodes.specs.declared.source.InMemorySourceNode.{InMemorySourceNode}
+use Rattle.plain_nodes.specs.declared.source.InMemorySourceNode.{InMemorySourceNode}
 use Rattle.turn_laws.specs.Updating.{SeenNode}
 use Rattle.flow_trials.proofs.sources.holds_of_source.Goals as goal
 

@@ -1,6 +1,6 @@
 -- The schema that the rules give is that of the join.
 use Rattle.made_tables.proofs.Joins.{schema_given}
-use Rattle.made_tables.specs.Uncalled.{no_functions}
+use Rattle.bare_nodes.specs.Uncalled.{no_functions}
 use Rattle.ps_frame.specs.Trees.{tree_at}
 use Rattle.ps_joins.specs.JoinOf.{join_of}
 use Rattle.made_tables.proofs.join_tables.counted_schema.Goals as goal

@@ -2,8 +2,8 @@
 use Rattle.std.proofs.Common.{◌≡◌, ◌≤◌, [], ◌∷◌, arith, length, subst}
 use Rattle.made_tables.proofs.Joins.{as_many, as_many_keys, asked_of, left_typed, paired, right_typed}
 use Rattle.made_tables.proofs.Mapped.{broken_by_join, made_by_join}
-use Rattle.made_tables.specs.Made.{nowhere}
-use Rattle.made_tables.specs.Uncalled.{no_functions}
+use Rattle.bare_nodes.specs.Bare.{nowhere}
+use Rattle.bare_nodes.specs.Uncalled.{no_functions}
 use Rattle.ps_frame.specs.Aggregates.{max_rows}
 use Rattle.ps_frame.specs.Trees.{tree_at}
 use Rattle.ps_joins.specs.JoinOf.{join_of}

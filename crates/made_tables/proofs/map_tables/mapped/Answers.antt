@@ -1,7 +1,7 @@
 -- What the map gives or fails by, as what its node makes.
 use Rattle.std.proofs.Common.{◌≡◌, ◌≤◌, arith, length, subst}
 use Rattle.made_tables.proofs.Mapped.{broken_by_map, made_by_map}
-use Rattle.made_tables.specs.Made.{nowhere}
+use Rattle.bare_nodes.specs.Bare.{nowhere}
 use Rattle.ps_frame.specs.Aggregates.{max_rows}
 use Rattle.ps_meaning.specs.Nodes.{GivesFrame, MayFault}
 use Rattle.ps_owned_maps.specs.Owned.{step_of}

@@ -3,7 +3,7 @@ use Rattle.std.proofs.Common.{◌≡◌, true, ap, subst, sym, ◌∙◌}
 use Rattle.std.proofs.lemmas.Result.{IfOk-weaker}
 use Rattle.std.specs.Prelude.{Some}
 use Rattle.made_tables.proofs.Narrow.{fields_found, projection_is}
-use Rattle.made_tables.specs.Uncalled.{no_functions}
+use Rattle.bare_nodes.specs.Uncalled.{no_functions}
 use Rattle.ps_frame.specs.Frames.{has_distinct_names}
 use Rattle.ps_frame.specs.Tables.{Fields, whole}
 use Rattle.ps_meaning.specs.Cases.{projected}

@@ -2,7 +2,7 @@ use Rattle.std.specs.Prelude.{Ok}
 use Rattle.ps_frame.specs.Trees.{tree_at}
 use Rattle.ps_phys.specs.Shown.{inputs_of}
 use Rattle.ps_phys.specs.declared.phys.PhysNodeKind.TheVariants as phys
-use Rattle.plan_graphs.specs.Read.{schemas_read}
+use Rattle.graph_parts.specs.Read.{schemas_read}
 use Rattle.plan_graphs.proofs.Arms.{aggregates_reduce, aggregates_whole, equi_fits, filter_fits, group_names, independent_fits, join_fits, keys_whole, made_at, map_fits, reduce_names, reduce_reduces, reduce_whole, select_fits, sort_fits, stream_fits}
 use Rattle.plan_graphs.proofs.flow_nodes.flow_node.Goals as goal
 

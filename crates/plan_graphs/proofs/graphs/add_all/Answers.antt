@@ -1,7 +1,8 @@
 use Rattle.std.proofs.Common.{◌≡◌, ℕ, length, subst, arith}
 use Rattle.ps_frame.specs.Trees.{tree_at}
 use Rattle.ps_phys.specs.Underway.{numbers_in}
-use Rattle.plan_graphs.specs.Underway.{IsUnderway, ordered}
+use Rattle.plan_graphs.specs.Underway.{IsUnderway}
+use Rattle.graph_parts.specs.Orders.{ordered}
 use Rattle.plan_graphs.proofs.graphs.add_all.Goals as goal
 
 pub returns-clause-all : goal.returns-clause-all

@@ -3,7 +3,7 @@ use Rattle.std.proofs.lemmas.Option.{slice_get-get_or}
 use Rattle.ps_frame.specs.Trees.{tree_at}
 use Rattle.ps_phys.specs.declared.phys.PhysNodeKey.{PhysNodeKey}
 use Rattle.plan_graphs.proofs.Building.{next-underway, node-count, pipe-room, senders}
-use Rattle.plan_graphs.proofs.Ordered.{of-sound}
+use Rattle.graph_parts.proofs.Ordered.{of-sound}
 use Rattle.plan_graphs.proofs.graphs.add_next.Goals as goal
 
 pub flow_node-requires : goal.flow_node-requires

@@ -3,7 +3,7 @@ use Rattle.ps_frame.specs.Trees.{tree_at}
 use Rattle.ps_phys.specs.Shown.{shown}
 use Rattle.ps_phys.specs.Underway.{AreThere, numbers_in}
 use Rattle.ps_phys.specs.declared.phys.PhysNodeKey.{PhysNodeKey}
-use Rattle.plan_graphs.specs.Underway.{ordered}
+use Rattle.graph_parts.specs.Orders.{ordered}
 use Rattle.plan_graphs.proofs.Completing.{built-complete}
 use Rattle.plan_graphs.proofs.Whole.{all_built, all_keyed, sound_order, starts}
 use Rattle.plan_graphs.proofs.graphs.physical_plan_to_graph.Goals as goal

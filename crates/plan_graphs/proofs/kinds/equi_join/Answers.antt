@@ -1,12 +1,12 @@
 use Rattle.std.proofs.Common.{[], ◌∷◌, ap, ◌∙◌}
 use Rattle.ps_frame.specs.Trees.{tree_at}
 use Rattle.ps_meaning.specs.Shape.{equi_join}
-use Rattle.ps_nodes.specs.Exprs.{join_shown}
+use Rattle.plain_nodes.specs.Exprs.{join_shown}
 use Rattle.ps_nodes.specs.declared.flow.FlowNode.TheVariants as flow
 use Rattle.ps_phys.specs.Shown.{join_of}
 use Rattle.plan_graphs.proofs.Making.{copied_join, is_made}
 use Rattle.ps_phys.specs.Shown.{stream_of}
-use Rattle.plan_graphs.specs.Read.{schemas_read}
+use Rattle.graph_parts.specs.Read.{schemas_read}
 use Rattle.plan_graphs.proofs.kinds.equi_join.Goals as goal
 
 pub returns-clause-made : goal.returns-clause-made

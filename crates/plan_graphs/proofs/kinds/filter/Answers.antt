@@ -2,7 +2,7 @@ use Rattle.std.proofs.Common.{ap}
 use Rattle.ps_frame.specs.Trees.{tree_at}
 use Rattle.ps_meaning.specs.Shape.{filter_node}
 use Rattle.ps_meaning.specs.Steps.{Named}
-use Rattle.ps_nodes.specs.Exprs.{expr_shown}
+use Rattle.plain_nodes.specs.Exprs.{expr_shown}
 use Rattle.ps_nodes.specs.declared.flow.FlowNode.TheVariants as flow
 use Rattle.plan_graphs.proofs.Making.{is_made}
 use Rattle.plan_graphs.proofs.kinds.filter.Goals as goal

@@ -4,8 +4,8 @@ use Rattle.ps_frame.specs.Trees.{tree_at}
 use Rattle.ps_meaning.specs.Schemas.{names_of}
 use Rattle.ps_meaning.specs.Shape.{group_by_node}
 use Rattle.ps_meaning.specs.Steps.{named_trees}
-use Rattle.ps_nodes.specs.Exprs.{expr_shown}
-use Rattle.ps_nodes.specs.Reductions.{reduced}
+use Rattle.plain_nodes.specs.Exprs.{expr_shown}
+use Rattle.plain_nodes.specs.Reductions.{reduced}
 use Rattle.ps_nodes.specs.declared.flow.FlowNode.TheVariants as flow
 use Rattle.plan_graphs.proofs.Making.{behind_keys, is_made}
 use Rattle.std.proofs.Common.{drop}

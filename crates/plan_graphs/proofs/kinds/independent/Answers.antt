@@ -3,7 +3,7 @@ use Rattle.std.specs.Prelude.{map}
 use Rattle.ps_frame.specs.Trees.{tree_at}
 use Rattle.ps_meaning.specs.Shape.{independent_select}
 use Rattle.ps_meaning.specs.Steps.{named_trees}
-use Rattle.ps_nodes.specs.Exprs.{expr_shown}
+use Rattle.plain_nodes.specs.Exprs.{expr_shown}
 use Rattle.ps_nodes.specs.declared.flow.FlowNode.TheVariants as flow
 use Rattle.plan_graphs.proofs.Making.{is_made}
 use Rattle.plan_graphs.proofs.kinds.independent.Goals as goal

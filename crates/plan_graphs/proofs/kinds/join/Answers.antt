@@ -1,10 +1,10 @@
 use Rattle.ps_frame.specs.Trees.{tree_at}
-use Rattle.ps_nodes.specs.Exprs.{join_shown}
+use Rattle.plain_nodes.specs.Exprs.{join_shown}
 use Rattle.ps_phys.specs.Shown.{join_of}
 use Rattle.plan_graphs.proofs.Making.{copied_join, join_made}
 use Rattle.keyed_slots.specs.Slots.{value_at}
 use Rattle.ps_phys.specs.Shown.{stream_of}
-use Rattle.plan_graphs.specs.Read.{slot_schema}
+use Rattle.graph_parts.specs.Read.{slot_schema}
 use Rattle.plan_graphs.proofs.kinds.join.Goals as goal
 
 pub returns-clause-made : goal.returns-clause-made

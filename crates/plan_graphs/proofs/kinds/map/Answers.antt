@@ -4,7 +4,7 @@ use Rattle.plan_graphs.proofs.Making.{map_made}
 use Rattle.keyed_slots.specs.Slots.{value_at}
 use Rattle.ps_meaning.specs.Maps.{map_step}
 use Rattle.ps_phys.specs.Shown.{stream_of}
-use Rattle.plan_graphs.specs.Read.{slot_schema}
+use Rattle.graph_parts.specs.Read.{slot_schema}
 use Rattle.plan_graphs.proofs.kinds.map.Goals as goal
 
 pub returns-clause-made : goal.returns-clause-made

@@ -4,7 +4,7 @@ use Rattle.ps_meaning.specs.Shape.{simple_projection}
 use Rattle.ps_nodes.specs.declared.flow.FlowNode.TheVariants as flow
 use Rattle.plan_graphs.proofs.Making.{is_made}
 use Rattle.ps_phys.specs.Shown.{stream_of}
-use Rattle.plan_graphs.specs.Read.{schemas_read}
+use Rattle.graph_parts.specs.Read.{schemas_read}
 use Rattle.plan_graphs.proofs.kinds.projection.Goals as goal
 
 pub returns-clause-made : goal.returns-clause-made

@@ -1,7 +1,7 @@
 use Rattle.std.proofs.Common.{ap, ◌∙◌}
 use Rattle.plan_graphs.proofs.Making.{zip_made}
 use Rattle.ps_phys.specs.Shown.{streams_of}
-use Rattle.plan_graphs.specs.Read.{schemas_read}
+use Rattle.graph_parts.specs.Read.{schemas_read}
 use Rattle.plan_graphs.proofs.kinds.zip.Goals as goal
 
 pub returns-clause-made : goal.returns-clause-made

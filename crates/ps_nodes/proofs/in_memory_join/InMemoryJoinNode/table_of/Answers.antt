@@ -3,8 +3,9 @@ use Rattle.std.proofs.Common.{◌≡◌, List, [], ◌∷◌, subst, sym, ◌∙
 use Rattle.std.specs.List.{AllByRecursion}
 use Rattle.std.specs.Prelude.{IfErr, IfOk}
 use Rattle.made_tables.specs.Joinable.{CanJoin}
-use Rattle.made_tables.specs.Made.{MayBreak, bare_node}
-use Rattle.made_tables.specs.Uncalled.{no_functions}
+use Rattle.bare_nodes.specs.Bare.{bare_node}
+use Rattle.made_tables.specs.Made.{MayBreak}
+use Rattle.bare_nodes.specs.Uncalled.{no_functions}
 use Rattle.ps_frame.specs.Tables.{whole}
 use Rattle.ps_frame.specs.Trees.{IsComplete, tree_at}
 use Rattle.ps_joins.specs.JoinOf.{join_of}
@@ -12,7 +13,7 @@ use Rattle.ps_meaning.specs.Shape.{in_memory_join}
 use Rattle.ps_meaning.specs.Steps.{JoinStep}
 use Rattle.ps_nodes.proofs.JoinTurn.{left_complete, right_complete}
 use Rattle.ps_nodes.proofs.KeyCopies.{trees_shown}
-use Rattle.ps_nodes.specs.Exprs.{ExprParts, join_shown}
+use Rattle.plain_nodes.specs.Exprs.{ExprParts, join_shown}
 use Rattle.ps_turns.specs.Results.{IsMade}
 use Rattle.ps_nodes.proofs.in_memory_join.InMemoryJoinNode.table_of.Goals as goal
 

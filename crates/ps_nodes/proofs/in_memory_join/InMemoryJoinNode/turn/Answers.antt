@@ -1,14 +1,15 @@
 -- It turns by its stage alone, or makes its table.
 use Rattle.std.proofs.Common.{Some, [], ◌∷◌, ap, refl, subst, sym, ◌∙◌}
 use Rattle.made_tables.specs.Joinable.{CanJoin}
-use Rattle.made_tables.specs.Made.{MayBreak, bare_node}
-use Rattle.made_tables.specs.Uncalled.{no_functions}
+use Rattle.bare_nodes.specs.Bare.{bare_node}
+use Rattle.made_tables.specs.Made.{MayBreak}
+use Rattle.bare_nodes.specs.Uncalled.{no_functions}
 use Rattle.node_states.specs.Stages.{stage_of}
 use Rattle.ps_frame.specs.Tables.{Frame, whole}
 use Rattle.ps_meaning.specs.Shape.{in_memory_join}
 use Rattle.ps_nodes.proofs.JoinTurn.{join_makes}
-use Rattle.ps_nodes.proofs.Turning.{goes_on}
-use Rattle.ps_nodes.specs.Exprs.{join_shown}
+use Rattle.plain_nodes.proofs.Turning.{goes_on}
+use Rattle.plain_nodes.specs.Exprs.{join_shown}
 use Rattle.ps_nodes.specs.Seen.{progress_of}
 use Rattle.ps_nodes.specs.declared.flow.FlowNode.TheVariants as flow
 use Rattle.ps_turns.specs.Results.{IsMade}

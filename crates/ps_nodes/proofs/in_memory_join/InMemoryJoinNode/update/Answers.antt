@@ -1,13 +1,13 @@
 -- It turns by its stage, with its table, and answers by its stage after the turn.
 use Rattle.std.proofs.Common.{List, [], ◌∷◌, inl, inr, refl, subst, sym}
-use Rattle.made_tables.specs.Made.{bare_node}
-use Rattle.made_tables.specs.Uncalled.{no_functions}
+use Rattle.bare_nodes.specs.Bare.{bare_node}
+use Rattle.bare_nodes.specs.Uncalled.{no_functions}
 use Rattle.node_states.specs.Stages.{stage_of}
 use Rattle.node_states.specs.Views.{sides_of}
 use Rattle.ps_frame.specs.Tables.{Table}
 use Rattle.ps_meaning.specs.Shape.{in_memory_join}
 use Rattle.ps_nodes.proofs.JoinTurn.{join_starts, two_tables}
-use Rattle.ps_nodes.specs.Exprs.{join_shown}
+use Rattle.plain_nodes.specs.Exprs.{join_shown}
 use Rattle.ps_nodes.specs.Seen.{Updates, progress_of, view_of}
 use Rattle.ps_nodes.specs.declared.flow.FlowNode.TheVariants as flow
 use Rattle.ps_nodes.specs.declared.in_memory_join.InMemoryJoinNode.{InMemoryJoinNode}

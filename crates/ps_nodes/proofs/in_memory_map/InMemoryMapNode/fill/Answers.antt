@@ -1,6 +1,7 @@
 -- It is filled with what its function makes of what it stored.
 use Rattle.std.proofs.Common.{List, Some, [], ◌∷◌, ap, subst, sym}
-use Rattle.made_tables.specs.Made.{MayBreak, bare_node}
+use Rattle.bare_nodes.specs.Bare.{bare_node}
+use Rattle.made_tables.specs.Made.{MayBreak}
 use Rattle.ps_frame.specs.Tables.{Fields, Frame, Table, whole}
 use Rattle.ps_meaning.specs.Shape.{in_memory_map}
 use Rattle.ps_node_eval.specs.Ready.{IsReadyFor}

@@ -1,7 +1,8 @@
 -- It turns by its stage alone, or makes its table.
 use Rattle.std.proofs.Common.{Some, [], ◌∷◌, ap, map, subst, sym, ◌∙◌}
-use Rattle.made_tables.specs.Made.{MayBreak, bare_node}
-use Rattle.made_tables.specs.Uncalled.{no_functions}
+use Rattle.bare_nodes.specs.Bare.{bare_node}
+use Rattle.made_tables.specs.Made.{MayBreak}
+use Rattle.bare_nodes.specs.Uncalled.{no_functions}
 use Rattle.node_states.specs.Stages.{stage_of}
 use Rattle.ps_frame.specs.Tables.{Frame, Table, whole}
 use Rattle.ps_meaning.specs.Shape.{in_memory_map}

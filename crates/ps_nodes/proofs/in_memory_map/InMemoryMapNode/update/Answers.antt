@@ -1,8 +1,8 @@
 -- It turns by its stage, with its table, and answers by its stage after the turn.
 use Rattle.std.proofs.Common.{List, [], ◌∷◌, inl, inr, refl, subst, sym}
-use Rattle.made_tables.specs.Made.{bare_node}
+use Rattle.bare_nodes.specs.Bare.{bare_node}
 use Rattle.ps_turns.specs.Results.{BreaksRows}
-use Rattle.made_tables.specs.Uncalled.{no_functions}
+use Rattle.bare_nodes.specs.Uncalled.{no_functions}
 use Rattle.node_states.specs.Stages.{stage_of}
 use Rattle.node_states.specs.Views.{sides_of}
 use Rattle.ps_frame.specs.Tables.{Table}

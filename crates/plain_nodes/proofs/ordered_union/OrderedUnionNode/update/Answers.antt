@@ -1,0 +1,13 @@
+-- It stays in its stage, and answers by its row.
+use Rattle.std.proofs.Common.{refl}
+use Rattle.node_states.specs.Views.{sides_of}
+use Rattle.plain_nodes.proofs.Updated.{stays_update}
+use Rattle.plain_nodes.specs.Seen.{view_of}
+use Rattle.plain_nodes.specs.Plain as plain
+use Rattle.plain_nodes.proofs.ordered_union.OrderedUnionNode.update.Goals as goal
+
+pub returns : goal.returns
+returns c =
+    let a = plain.ordered_union c.args.self.now in
+    let given = sides_of c.args.recv.now c.args.send.now in
+    stays_update a given _ c.requires.inputs c.requires.output refl refl refl (c.answer.ensures (view_of a given) refl)

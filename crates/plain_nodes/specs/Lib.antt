@@ -1,0 +1,7 @@
+pub mod Exprs
+pub mod Reductions
+pub mod Kept
+pub mod Cutting
+pub mod Plain
+pub mod Updating
+pub mod Seen
