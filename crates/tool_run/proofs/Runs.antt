@@ -24,7 +24,7 @@ use Rattle.tool_run.specs.Asked.{HasNoReading, HasUnknownTable, IsAskedPlan, IsT
 use Rattle.tool_run.specs.declared.answer.Wanted.{Wanted}
 use Rattle.tool_run.specs.declared.answer.Wanted.TheVariants as wanted
 use Rattle.tool_run.specs.Outcomes.{line_of, status_of}
-use Rattle.tool_run.specs.Outside.{Appends, AppendsFront, IsLonger, Rose, TakesAll, Writes, WritesFront}
+use Rattle.tool_ends.specs.Outside.{Appends, AppendsFront, IsLonger, Rose, TakesAll, Writes, WritesFront}
 use Rattle.tool_run.specs.Runs.{IsEnd, IsLeft, IsLine, IsPlanLeft, IsReadWhole, IsTextPlanLeft, IsToolText, OfBytes, OfPlan, Outside, max_document_bytes}
 use Rattle.tool_run.specs.declared.outcome.Outcome.{Outcome}
 use Rattle.tool_run.specs.declared.outcome.Outcome.TheVariants as outcome

@@ -1,10 +1,5 @@
-pub mod Outside
-pub mod Memory
-pub mod Csv
 pub mod Answers
 pub mod Asked
 pub mod Outcomes
 pub mod Errors
 pub mod Runs
-pub mod ToolAnswers
-pub mod ToolLaws

@@ -7,7 +7,7 @@ use Rattle.tool_words.specs.Words.{AreWords, AsksTable, IsHelp, IsText, IsVersio
 use Rattle.tool_run.specs.Answers.{HasPlan, IsAnswerText, IsFaultLine, IsNoPlanLine, IsRefusalLine, IsRowsLine, IsUnanswered}
 use Rattle.tool_run.specs.Asked.{IsTextPlan, Words}
 use Rattle.tool_run.specs.Outcomes.{line_of, status_of}
-use Rattle.tool_run.specs.Outside.{IsLonger, Rose, Writes, WritesFront}
+use Rattle.tool_ends.specs.Outside.{IsLonger, Rose, Writes, WritesFront}
 use Rattle.tool_run.specs.declared.outcome.Outcome.{Outcome}
 use Rattle.tool_run.specs.declared.outcome.Outcome.TheVariants as outcome
 

@@ -12,7 +12,6 @@ ghost use Rattle.tool_run.specs.Answers.{HasPlan, IsAnswerText, IsExplanation, I
 ghost use Rattle.tool_run.specs.Asked.{IsQueryPlan, IsWantedBy, Words};
 ghost use Rattle.tool_run.specs.Errors.{IsOutcomeOf};
 
-use crate::csv_text::csv_text;
 use crate::outcome::Outcome;
 use plain_queries::gate::Gate;
 use plain_queries::query::{run_query, run_query_serial};
@@ -30,6 +29,7 @@ use std::thread::Threads;
 use text_plans::query_plan;
 use text_reading::read_query;
 use text_tokens::error::TextError;
+use tool_ends::csv_text::csv_text;
 
 /// What is wanted of a document.
 #[derive(Clone, Copy, Debug, PartialEq, Eq)]

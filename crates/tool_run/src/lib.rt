@@ -2,11 +2,7 @@
 #![tactic(auto)]
 
 mod answer;
-pub mod csv_text;
-pub mod functions;
 pub mod outcome;
-pub mod reading;
-pub mod sink;
-pub mod source;
 pub mod tool;
-pub mod writing;
+
+pub use tool_ends::{csv_text, functions, reading, sink, source, writing};

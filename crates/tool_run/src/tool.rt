@@ -6,21 +6,21 @@ ghost use Rattle.ps_plan.specs.Plans.{Plan};
 ghost use Rattle.ps_plan.specs.Refusals.{IsValid};
 ghost use Rattle.tool_words.specs.Words.{AreWords, IsExplain, IsRun, IsText, ReadsDocument, ReadsPlan};
 ghost use Rattle.tool_run.specs.Outcomes.{line_of};
-ghost use Rattle.tool_run.specs.Outside.{Appends, AppendsFront, IsLonger, Rose, Tells, Writes, WritesFront};
+ghost use Rattle.tool_ends.specs.Outside.{Appends, AppendsFront, IsLonger, Rose, Tells, Writes, WritesFront};
 ghost use Rattle.tool_run.specs.Asked.{IsTextPlan, IsWantedBy};
 ghost use Rattle.tool_run.specs.Runs.{IsEnd, IsLeft, IsLine, IsPlanLeft, IsReadWhole, IsTextPlanLeft, IsToolText, help_text, version_text};
 
 use crate::answer::{Wanted, answer};
 use crate::outcome::Outcome;
-use crate::reading::{MAX_DOCUMENT_BYTES, ReadError, read_source};
-use crate::sink::Sink;
-use crate::source::{Failed, Source};
-use crate::writing::write_whole;
 use plain_queries::gate::Gate;
 use ps_frame::functions::Functions;
 use std::alloc::Global;
 use std::sync::Wait;
 use std::thread::Threads;
+use tool_ends::reading::{MAX_DOCUMENT_BYTES, ReadError, read_source};
+use tool_ends::sink::Sink;
+use tool_ends::source::{Failed, Source};
+use tool_ends::writing::write_whole;
 use tool_words::command::{Command, command_of};
 
 /// How a run ended.

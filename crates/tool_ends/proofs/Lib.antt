@@ -1,0 +1,4 @@
+pub mod Pieces
+pub mod CsvText
+pub mod Plain
+pub mod ToolColumns

@@ -1,0 +1,5 @@
+pub mod Outside
+pub mod Memory
+pub mod Csv
+pub mod ToolAnswers
+pub mod ToolLaws

@@ -1,7 +1,0 @@
-use Rattle.std.proofs.Common.{◌≡◌, take}
-use Rattle.std.specs.Prelude.{map}
-use Rattle.tool_run.specs.ToolAnswers.{negated_value}
-use Rattle.tool_run.proofs.functions.negate_values.Given as goal
-
-abbrev pub invariant-loop-value : goal.invariant-loop-value
-invariant-loop-value l = l.done.items ≡ map negated_value (take l.value-index l.values)
