@@ -2,7 +2,6 @@
 use Rattle.std.proofs.Common.{◌≡◌, ℕ, ◌+◌, ◌-◌, ◌^◌, ◌<◌, ◌≤◌, Bool, false, true, List, [], ◌∷◌, ◌++◌, length, map, set, slice_get, Option, Some, None, sym, ap, ◌∙◌, refl, subst, arith, append_assoc, length-append, length-set}
 use Rattle.std.specs.Prelude.{IsTrue, not, ◌↔◌}
 use Rattle.std.proofs.lemmas.Option.{slice_get_within}
-use Rattle.std.proofs.lemmas.List.{length-map}
 use Rattle.numbered_slots.specs.Laid.{IsLaid, laid}
 use Rattle.numbered_slots.specs.Numbered.{IsAwaited, Numbered, begins, there, with_item}
 use Rattle.numbered_slots.proofs.SlotLists.{begins-place, past_ready, set-past_ready, there-filled, there-last, there-place, there_le}

@@ -1,6 +1,5 @@
 -- Slots, by what stands in them: how many hold something, and where those that can be read end.
-use Rattle.std.proofs.Common.{◌≡◌, ℕ, zero, suc, ◌+◌, ◌-◌, ◌<◌, ◌≤◌, false, true, List, [], ◌∷◌, ◌++◌, length, map, set, slice_get, Option, Some, None, sym, ap, ◌∙◌, refl, subst, arith, zero-add, append_assoc, length-append}
-use Rattle.std.proofs.lemmas.List.{length-map}
+use Rattle.std.proofs.Common.{◌≡◌, ℕ, zero, suc, ◌+◌, ◌-◌, ◌≤◌, false, List, [], ◌∷◌, ◌++◌, length, map, set, slice_get, Option, Some, None, sym, ap, ◌∙◌, refl, arith, zero-add}
 use Rattle.numbered_slots.specs.Numbered.{begins, there}
 
 module _ {T : Type 0} where

@@ -1,5 +1,5 @@
 -- What a contract sees of numbered slots: the number of the first one, and what stands in each.
-use Rattle.std.specs.Prelude.{◌≡◌, ℕ, ◌+◌, ◌-◌, ◌≤◌, Bool, false, List, [], ◌∷◌, ◌++◌, Option, Some, None, is_some, count_by, slice_get, slice_set}
+use Rattle.std.specs.Prelude.{◌≡◌, ℕ, ◌+◌, ◌-◌, ◌≤◌, Bool, false, List, [], ◌∷◌, ◌++◌, Option, Some, None, is_some, slice_get, slice_set}
 
 -- At place k stands what came under the number next + k, or nothing where that is still to come.
 pub record Numbered (T : Type 0) : Type 0 where
@@ -11,6 +11,11 @@ module _ {T : Type 0} where
   abbrev pub begins : List (Option T) → Bool
   begins [] = false
   begins (slot ∷ slots) = is_some slot
+
+  -- what the first slot holds
+  abbrev pub front : List (Option T) → Option T
+  front [] = None
+  front (slot ∷ slots) = slot
 
   -- how many slots hold something
   abbrev pub there : List (Option T) → ℕ

@@ -1,7 +1,7 @@
 //! Items in the order of numbers that were given before they came.
-ghost use Rattle.std.specs.Prelude.{◌≡◌, ◌+◌, ◌<◌, ◌≤◌, ◌∷◌, ◌++◌, [], false, length, slice_get, slice_set, Some, None, IfOk, OnOk, OnErr, Err, MatchOption};
+ghost use Rattle.std.specs.Prelude.{◌≡◌, ◌+◌, ◌<◌, ◌≤◌, ◌∷◌, ◌++◌, [], false, length, slice_get, slice_set, Some, None, IfOk, OnOk, OnErr, Err, MatchOption, option_copied};
 ghost use Rattle.std.specs.VecDeque.{deque_len};
-ghost use Rattle.numbered_slots.specs.Numbered.{begins, there, IsAwaited, with_place, with_item, with_last};
+ghost use Rattle.numbered_slots.specs.Numbered.{begins, front, there, IsAwaited, with_place, with_item, with_last};
 ghost use Rattle.numbered_slots.specs.Laid.{laid};
 ghost use Rattle.pu_base.specs.declared.error.PolarsUtilsError.TheVariants as refusal;
 
@@ -124,6 +124,17 @@ impl<T: Drop> NumberedSlots<T> {
         ensures { result ≡ begins self.now.slots }
     {
         !self.ready.is_empty()
+    }
+
+    /// The item that is read next, if it is there.
+    pub fn peek(&self) -> Option<&T>
+        ensures { option_copied result ≡ front self.now.slots }
+    {
+        let (first, second) = self.ready.as_slices();
+        match first.first() {
+            Some(item) => Some(item),
+            None => second.first(),
+        }
     }
 
     /// Gives the next number, for an item that is still to come.

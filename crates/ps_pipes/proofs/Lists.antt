@@ -5,7 +5,7 @@ use Rattle.std.specs.List.{count_by, filter as kept}
 use Rattle.std.proofs.lemmas.List.Sums.{length-filter}
 use Rattle.std.proofs.lemmas.List.{drop-set-add, map-set}
 use Rattle.ps_frame.specs.Tables.{Fields, Frame, Row}
-use Rattle.numbered_slots.specs.Numbered.{begins, there}
+use Rattle.numbered_slots.specs.Numbered.{begins, front, there}
 use Rattle.ps_world.specs.World.{morsel_at}
 use Rattle.ps_pipes.specs.Shown.{table_of}
 
@@ -19,6 +19,13 @@ module _ (s : Fields) where
   begins_is zero (Some rs ∷ xs) = refl
   begins_is (suc n) [] = refl
   begins_is (suc n) (x ∷ xs) = begins_is n xs
+
+  pub front_is : (n : ℕ) (xs : List (Option (List Row))) → front (tables (drop n xs)) ≡ option_map (table_of s) (morsel_at n xs)
+  front_is zero [] = refl
+  front_is zero (None ∷ xs) = refl
+  front_is zero (Some rs ∷ xs) = refl
+  front_is (suc n) [] = refl
+  front_is (suc n) (x ∷ xs) = front_is n xs
 
   there-kept : (xs : List (Option (List Row))) → there (tables xs) ≡ length (kept (λ (slot : Option (List Row)). is_some slot) xs)
   there-kept [] = refl

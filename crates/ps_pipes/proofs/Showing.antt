@@ -4,12 +4,12 @@ use Rattle.std.specs.Prelude.{IfNone, IfSome, MatchOption, is_some, not, ◌&&�
 use Rattle.std.specs.List.{count_by}
 use Rattle.std.proofs.lemmas.List.{drop-append-le, length-map, map-append}
 use Rattle.ps_frame.specs.Tables.{Fields, Frame, Row}
-use Rattle.numbered_slots.specs.Numbered.{IsAwaited, Numbered, begins, there, with_item, with_last, with_place as with_free}
+use Rattle.numbered_slots.specs.Numbered.{IsAwaited, Numbered, begins, front, there, with_item, with_last, with_place as with_free}
 use Rattle.ps_world.specs.Pipes.{dropped_pipe, taken, with_answer, with_morsel, with_place}
 use Rattle.ps_world.specs.World.{Pipe, has_next, is_drained, is_over, morsel_at, waiting}
-use Rattle.ps_pipes.specs.Shown.{Shows, slots_left, table_of}
+use Rattle.ps_pipes.specs.Shown.{Shows, next_table, slots_left, table_of}
 use Rattle.ps_pipes.specs.declared.pipe.Pipe.{Pipe as Held}
-use Rattle.ps_pipes.proofs.Lists.{awaited_is, begins_is, first_of, set_is, table_is, tables, there_is}
+use Rattle.ps_pipes.proofs.Lists.{awaited_is, begins_is, first_of, front_is, set_is, table_is, tables, there_is}
 
 -- with other morsels
 abbrev pub holding : Held → Numbered Frame → Held
@@ -39,6 +39,13 @@ module _ (s : Fields) (p : Pipe) (h : Held) (shown : Shows s p h) where
 
   pub first_is : begins h.morsels.slots ≡ has_next p
   first_is = first_by p.is_dropped refl
+
+  front_by : (b : Bool) → p.is_dropped ≡ b → front h.morsels.slots ≡ cond b None (option_map (table_of s) (morsel_at p.next p.got))
+  front_by true d = ap front (shown.slots ∙ slots_gone s p d)
+  front_by false d = ap front (shown.slots ∙ slots_there s p d) ∙ front_is s p.next p.got
+
+  pub next_is : front h.morsels.slots ≡ next_table s p
+  next_is = front_by p.is_dropped refl
 
   waits_by : (b : Bool) → p.is_dropped ≡ b → there h.morsels.slots ≡ waiting p
   waits_by true d = ap there (shown.slots ∙ slots_gone s p d) ∙ sym (ap (λ b. cond {A = ℕ} b 0 (count_by (λ (slot : Option (List Row)). is_some slot) (drop p.next p.got))) d)

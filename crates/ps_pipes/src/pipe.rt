@@ -1,9 +1,9 @@
 //! The pipes of a run.
-ghost use Rattle.std.specs.Prelude.{◌≡◌, ℕ, ◌+◌, ◌-◌, ◌≤◌, ◌||◌, not, nat_lt, false, true, length, Some, None, IfOk, IfNone, IfSome, OnOk, OnErr, Err};
+ghost use Rattle.std.specs.Prelude.{◌≡◌, ℕ, ◌+◌, ◌-◌, ◌≤◌, ◌||◌, not, nat_lt, false, true, length, Some, None, IfOk, IfNone, IfSome, OnOk, OnErr, Err, option_copied};
 ghost use Rattle.numbered_slots.specs.Numbered.{IsAwaited};
 ghost use Rattle.ps_frame.specs.Tables.{Fields};
 ghost use Rattle.ps_frame.specs.declared.refusal.PolarsError.{PolarsError};
-ghost use Rattle.ps_pipes.specs.Shown.{Shows};
+ghost use Rattle.ps_pipes.specs.Shown.{Shows, next_table};
 ghost use Rattle.ps_world.specs.Opening.{fresh_pipe};
 ghost use Rattle.ps_world.specs.Pipes.{dropped_pipe, taken, with_answer, with_morsel, with_place};
 ghost use Rattle.ps_world.specs.World.{Pipe as WorldPipe, has_next, is_drained, is_over, morsel_at, waiting};
@@ -71,6 +71,13 @@ impl Pipe {
         ensures { (s : Fields) (p : WorldPipe) → Shows s p self.now → result ≡ has_next p }
     {
         self.morsels.is_ready()
+    }
+
+    /// The next morsel, if it is there.
+    pub fn peek(&self) -> Option<&DataFrame>
+        ensures { (s : Fields) (p : WorldPipe) → Shows s p self.now → option_copied result ≡ next_table s p }
+    {
+        self.morsels.peek()
     }
 
     /// Whether nothing waits, and nothing is to come of what was claimed.

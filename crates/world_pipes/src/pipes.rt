@@ -1,11 +1,12 @@
 //! All pipes of a run.
-ghost use Rattle.std.specs.Prelude.{◌≡◌, ◌-◌, ◌+◌, ℕ, ◌∷◌, [], ◌&&◌, ◌||◌, Bool, IfNone, IfSome, List, Some, false, length, map, nat_lt, not};
+ghost use Rattle.std.specs.Prelude.{◌≡◌, ◌-◌, ◌+◌, ℕ, ◌∷◌, [], ◌&&◌, ◌||◌, Bool, IfNone, IfSome, List, Some, false, length, map, nat_lt, not, option_copied};
 ghost use Rattle.ps_world.specs.Pipes.{change_pipes, dropped_pipe, taken};
 ghost use Rattle.ps_world.specs.World.{Pipe as WorldPipe, has_next, is_over, morsel_at};
 ghost use Rattle.world_pipes.specs.Changed.{Changed, if_in_phase};
+ghost use Rattle.world_pipes.specs.Giving.{next_in_phase};
 ghost use Rattle.world_pipes.specs.Shown.{AreKeysOf, AreShown, IsAt, Setting, closed_pipe, ended_pipe};
 
-use crate::places::{self, place};
+use crate::places::{self, peek_in, place};
 use ps_frame::frame::DataFrame;
 use ps_graph::key::LogicalPipeKey;
 use ps_pipes::Pipe;
@@ -40,6 +41,18 @@ impl Pipes {
             self.list[place].has_next()
         } else {
             false
+        }
+    }
+
+    /// The next morsel of a pipe of the open phase, if it is there.
+    pub fn peek(&self, key: LogicalPipeKey) -> Option<&DataFrame>
+        ensures { (s : Setting) (ps : List WorldPipe) (p : WorldPipe) → AreShown s ps self.now → IsAt key ps p → option_copied result ≡ next_in_phase (s.schema p.wire.sender) p }
+    {
+        let place = place(key);
+        if place < self.list.len() {
+            peek_in(&self.list[place])
+        } else {
+            None
         }
     }
 
