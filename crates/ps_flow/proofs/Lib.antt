@@ -1,4 +1,9 @@
+pub mod Changing
+pub mod Claims
+pub mod Dropping
 pub mod HandingIn
+pub mod Made
+pub mod Preparing
 pub mod InputKeys
 pub mod Marking
 pub mod Moving

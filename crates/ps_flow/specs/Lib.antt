@@ -1,4 +1,6 @@
 pub mod Changes
+pub mod Claiming
+pub mod Drops
 pub mod Handing
 pub mod Marked
 pub mod Openings

@@ -2,6 +2,9 @@
 #![tactic(auto)]
 
 mod beginning;
+pub mod claim_node;
+mod claiming;
+mod drops;
 mod handing;
 mod inputs;
 pub mod marks;
@@ -14,8 +17,10 @@ pub mod run_node;
 pub mod store_node;
 pub mod world;
 
+pub use claim_node::{ClaimNode, Claimed, Seat};
 pub use marks::{Mark, Marks};
 pub use piece_node::PieceNode;
 pub use run_node::RunNode;
 pub use store_node::StoreNode;
 pub use world::World;
+pub use world_records::{Handed, Move, Record};

@@ -1,8 +1,9 @@
 //! The pipe out of a node.
-ghost use Rattle.std.specs.Prelude.{◌≡◌, ◌&&◌, ◌∷◌, ◌<◌, [], Contains, IfNone, IfSome, List, false, length, map, nat_eq, slice_get};
+ghost use Rattle.std.specs.Prelude.{◌≡◌, ◌&&◌, ◌∷◌, ◌<◌, [], Contains, Err, IfNone, IfSome, List, OnErr, OnOk, false, length, map, nat_eq, not, slice_get};
 ghost use Rattle.ps_flow.specs.Handing.{HasOneOutput};
+ghost use Rattle.ps_frame.specs.declared.refusal.PolarsError.{PolarsError};
 ghost use Rattle.ps_graph.specs.Shown.{IsLinked, wires_of};
-ghost use Rattle.ps_world.specs.Pipes.{change_pipes, with_answer};
+ghost use Rattle.ps_world.specs.Pipes.{change_pipes, with_answer, with_place};
 ghost use Rattle.ps_world.specs.World.{Pipe};
 ghost use Rattle.world_pipes.specs.Giving.{IsAwaitedIn};
 ghost use Rattle.world_pipes.specs.Shown.{AreKeysOf, AreShown, Setting};
@@ -10,6 +11,7 @@ ghost use Rattle.world_pipes.specs.Shown.{AreKeysOf, AreShown, Setting};
 use crate::inputs::key_at;
 use keyed_slots::Key;
 use ps_frame::frame::DataFrame;
+use ps_frame::refusal::PolarsResult;
 use ps_graph::graph::Graph;
 use ps_graph::key::{GraphNodeKey, LogicalPipeKey};
 use world_pipes::Pipes;
@@ -39,5 +41,19 @@ pub(crate) fn put_out<N>(
     match output_key(graph, node) {
         Some(key) => pipes.put(key, number, table),
         None => (),
+    }
+}
+
+/// Makes a place for the answer to a claim in the pipe out of a node, where that is in the open phase and isn't dropped.
+///
+/// Fails only for want of memory; the pipes are then as they were.
+pub(crate) fn reserve_out<N>(graph: &Graph<N>, pipes: &mut Pipes, node: u32) -> PolarsResult<()>
+    ensures placed { OnOk result ((s : Setting) (ps : List Pipe) → AreShown s ps pipes.old → IsLinked graph.now → wires_of graph.now.pipes.slots ≡ map (λ (p : Pipe). p.wire) ps → HasOneOutput node ps → AreShown s (change_pipes (λ p. nat_eq p.wire.sender node && (p.in_phase && not p.is_dropped)) with_place ps) pipes.new) }
+    ensures stays { OnErr result ((s : Setting) (ps : List Pipe) → AreShown s ps pipes.old → AreShown s ps pipes.new) }
+    ensures memory { OnErr result (result ≡ Err PolarsError.OutOfMemory) }
+{
+    match output_key(graph, node) {
+        Some(key) => pipes.reserve(key),
+        None => Ok(()),
     }
 }
