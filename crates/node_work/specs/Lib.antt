@@ -1,0 +1,3 @@
+pub mod Stored
+pub mod Working
+pub mod Tasks
