@@ -1,0 +1,5 @@
+pub mod FirstRows
+pub mod KeyedColumns
+pub mod Restored
+pub mod Distincts
+pub mod Streams

@@ -1,0 +1,4 @@
+pub mod Members
+pub mod Lengths
+pub mod Picking
+pub mod Keyed
