@@ -74,7 +74,7 @@ pub each_some : (g : Fields) (es : List Tree) → have_all_kinds g es ≡ true �
 each_some g [] h = tt
 each_some g (e ∷ es) h = let b = both_hold (is_some (kind_over g e)) (have_all_kinds g es) h in (b.0, each_some g es b.1)
 
-items_some : (g : Fields) (rs : List Named) → AllByRecursion (λ (m : Named). IsTrue (is_some (kind_over g m.1))) rs → have_all_kinds g (exprs_of rs) ≡ true
+pub items_some : (g : Fields) (rs : List Named) → AllByRecursion (λ (m : Named). IsTrue (is_some (kind_over g m.1))) rs → have_all_kinds g (exprs_of rs) ≡ true
 items_some g [] h = refl
 items_some g (m ∷ rs) h = and_both (is_some (kind_over g m.1)) (have_all_kinds g (exprs_of rs)) h.0 (items_some g rs h.1)
 
@@ -390,7 +390,7 @@ module _ (F : Functions) (at : ℕ) (input : Stream) (node : PhysicalNode) (dist
       extends_one Right s.nodes (record { kind = zip_node false; schema = g; origin = at; inputs = ss })
       (subst (λ (x : Fields). KeepsRules F (zip_node false) x below) (sym e) (zip_right F below (λ q. few (e ∙ q)) (λ n. subst (λ (x : Fields). times n (names_of x) ≤ 1) e (once n))))
 
-  other_stream : (s : State) → Fine s → same_stream input (length s.nodes, 0) ≡ false
+  pub other_stream : (s : State) → Fine s → same_stream input (length s.nodes, 0) ≡ false
   other_stream s fine = by (input.0 == length s.nodes) refl
     where
       by : (b : Bool) → (input.0 == length s.nodes) ≡ b → (b && (input.1 == 0)) ≡ false

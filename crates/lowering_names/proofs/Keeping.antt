@@ -27,7 +27,7 @@ use Rattle.ps_bundles.proofs.Together.{reads_kept}
 use Rattle.lowering_names.proofs.Times.{times}
 
 -- kinds where the columns that are read are the same
-kind_same : (g h : Fields) (e : Tree) → ((n : Name) → IsTrue (reads_column n e) → field_kind n g ≡ field_kind n h) → kind_over g e ≡ kind_over h e
+pub kind_same : (g h : Fields) (e : Tree) → ((n : Name) → IsTrue (reads_column n e) → field_kind n g ≡ field_kind n h) → kind_over g e ≡ kind_over h e
 kind_same g h e same = same_kind (no_rows g []) (no_rows h []) e (reads_all (IsSameIn (no_rows g []) (no_rows h [])) e (λ n read. record { column = column n; kind = same n read }))
   where
     none : (o : Option ℕ) → map value (values_at_some o []) ≡ []

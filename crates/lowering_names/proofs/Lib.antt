@@ -1,8 +1,8 @@
 pub mod Times
-mod Streams
-mod Extending
-mod Ruling
-mod Keeping
-mod Calling
-mod Stepping
+pub mod Streams
+pub mod Extending
+pub mod Ruling
+pub mod Keeping
+pub mod Calling
+pub mod Stepping
 pub mod Ruled

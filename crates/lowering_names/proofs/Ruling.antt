@@ -40,7 +40,7 @@ kind_some None h = cc
 
 -- what has a kind reads no column that the schema lacks, and breaks no rule
 module _ (s : Fields) where
-  none_such : (test : Tree → Bool) → ((x : Tree) → test x ≡ true → is_refused s x ≡ true) → (e : Tree) → is_some (kind_over s e) ≡ true → some_part test e ≡ true → ⊥
+  pub none_such : (test : Tree → Bool) → ((x : Tree) → test x ≡ true → is_refused s x ≡ true) → (e : Tree) → is_some (kind_over s e) ≡ true → some_part test e ≡ true → ⊥
   none_such test refused e typed h =
       let k = kind_some (kind_over s e) typed in
       never (sym (any-weaker test (is_refused s) (tree_parts e) refused h) ∙ none-refused s e k.0 (kinds-exact s e) k.1)
@@ -51,12 +51,12 @@ module _ (s : Fields) where
       let b = both_hold (is_some (kind_over s e)) (have_all_kinds s es) typed in
       elim (or_cases (some_part test e) (list_any (some_part test) es) h) [ inl k ↦ none_such test refused e b.0 k | inr k ↦ none_of_all test refused es b.1 k ]
 
-  lacks_none : (es : List Tree) → have_all_kinds s es ≡ true → (n : Name) → lacks_column n s es ≡ true → ⊥
+  pub lacks_none : (es : List Tree) → have_all_kinds s es ≡ true → (n : Name) → lacks_column n s es ≡ true → ⊥
   lacks_none es typed n h =
       let b = both_hold (list_any (reads_column n) es) (not (has_name n s)) h in
       none_of_all (is_column_of n) (unknown-refused n s (not_true (has_name n s) b.1)) es typed b.0
 
-  breaks_none : (es : List Tree) → have_all_kinds s es ≡ true → break_rules s es ≡ true → ⊥
+  pub breaks_none : (es : List Tree) → have_all_kinds s es ≡ true → break_rules s es ≡ true → ⊥
   breaks_none es typed h = none_of_all (breaks_rule s) (breaks-refused s) es typed h
 
 -- expressions with kinds have fields, under their names
@@ -97,19 +97,19 @@ FlagsFit flags keys = (length flags ≡ 1) ⊎ (length flags ≡ keys)
 
 module _ (F : Functions) where
   -- the rules on a step, one by one
-  record Obeys (step : Step) (ss : List Fields) : Type 0 where
-    keys : HasBadKeys step → ⊥
-    key : HasNoKey step → ⊥
-    validated : IsValidated step → ⊥
-    missing : (n : Name) → IsMissingColumn n step ss → ⊥
-    repeated : (n : Name) → IsRepeated n step → ⊥
-    names : (n : Name) → WouldRepeat F n step ss → ⊥
-    kinds : StepMismatch F step ss → ⊥
-    typed : IsTrue (break_rules (first_schema ss) (own_exprs step)) → ⊥
-    columns : output_schema F step ss ≡ Some [] → ⊥
-    literal : HasLiteralAggregate step → ⊥
+  pub record Obeys (step : Step) (ss : List Fields) : Type 0 where
+    pub keys : HasBadKeys step → ⊥
+    pub key : HasNoKey step → ⊥
+    pub validated : IsValidated step → ⊥
+    pub missing : (n : Name) → IsMissingColumn n step ss → ⊥
+    pub repeated : (n : Name) → IsRepeated n step → ⊥
+    pub names : (n : Name) → WouldRepeat F n step ss → ⊥
+    pub kinds : StepMismatch F step ss → ⊥
+    pub typed : IsTrue (break_rules (first_schema ss) (own_exprs step)) → ⊥
+    pub columns : output_schema F step ss ≡ Some [] → ⊥
+    pub literal : HasLiteralAggregate step → ⊥
 
-  obeys : (step : Step) (ss : List Fields) → Obeys step ss → BreaksNoRule F step ss
+  pub obeys : (step : Step) (ss : List Fields) → Obeys step ss → BreaksNoRule F step ss
   obeys step ss k = (k.keys, k.key, k.validated, typing)
     where
       typing : (R : Refusal) → TypingRefused F step ss R → ⊥

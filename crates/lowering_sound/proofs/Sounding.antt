@@ -19,7 +19,7 @@ use Rattle.lowering_names.specs.Lawful.{NewKeepRules}
 use Rattle.lowering_names.proofs.Ruled.{exprs_keep_rules, selects_keep_rules}
 use Rattle.lowering_sound.specs.Sound.{ExprsStaySound, NewAreSound, SelectsStaySound, StaysSound}
 
-was_there : (a more : Shape) (n : ℕ) (p : PhysicalNode) → n < length a → slice_get (a ++ more) n ≡ Some p → slice_get a n ≡ Some p
+pub was_there : (a more : Shape) (n : ℕ) (p : PhysicalNode) → n < length a → slice_get (a ++ more) n ≡ Some p → slice_get a n ≡ Some p
 was_there [] more n p lt e = absurd (omega arith)
 was_there (x ∷ a) more zero p lt e = e
 was_there (x ∷ a) more (suc n) p lt e = was_there a more n p (omega arith) e
@@ -34,7 +34,7 @@ same_below a more is all = ap (λ (nodes : Shape). map (λ (i : Stream). schema_
 
 module _ (F : Functions) where
   -- a node that was there
-  fit_later : (a more : Shape) (n : ℕ) (p : PhysicalNode) → n < length a → IsFitNode F a n p → IsFitNode F (a ++ more) n p
+  pub fit_later : (a more : Shape) (n : ℕ) (p : PhysicalNode) → n < length a → IsFitNode F a n p → IsFitNode F (a ++ more) n p
   fit_later a more n p lt h =
       let same = same_below a more p.inputs (all_below n (length a) p.inputs (omega arith) h.earlier) in
       record {
