@@ -1,5 +1,5 @@
 -- The physical plan of a plan.
-use Rattle.std.specs.Prelude.{◌≡◌}
+use Rattle.std.specs.Prelude.{◌≡◌, ◌≤◌, ◌^◌}
 use Rattle.ps_frame.specs.Functions.{Functions}
 use Rattle.ps_fresh.specs.InPlans.{IsNameUnder}
 use Rattle.ps_meaning.specs.PlanTrees.{PlanTree}
@@ -16,9 +16,10 @@ physical_shape F names t =
     let l = lowering_of F names t in
     shape_from (with_multiplexers l.stream.0 l.progress.state.nodes) l.stream.0
 
--- The shape that the rules give for a plan: each name under its root is in use before, and no fresh one was given.
+-- The shape that the rules give for a plan: each name under its root is in use before, and no fresh one was given. The counter of names stays in 64 bits: past that two numbers may have one name.
 pub record IsPhysicalPlan (F : Functions) (plan : Plan) (shape : Shape) : Type 0 where
   pub names : Names
   pub in_use : Knows names (IsNameUnder F plan)
   pub none_given : names.next ≡ 0
+  pub in_range : (lowering_of F names (tree_of plan plan.root.0)).progress.state.names.next ≤ 2 ^ 64
   pub given : shape ≡ physical_shape F names (tree_of plan plan.root.0)

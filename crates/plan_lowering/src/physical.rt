@@ -63,6 +63,8 @@ pub fn build_physical_plan<F: Functions>(
         &mut low,
         &mut cache_nodes,
     )?;
+    // That the counter has 64 bits is why fresh names differ.
+    let _counter = low.names.counter();
     share(alloc, stream.node, &mut low.phys_sm)?;
     let Lowering { phys_sm, .. } = low;
     Ok((phys_sm, stream.node))

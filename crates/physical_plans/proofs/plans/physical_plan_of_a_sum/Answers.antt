@@ -1,3 +1,4 @@
+use Rattle.std.proofs.Common.{arith}
 use Rattle.std.specs.Prelude.{refl, []}
 use Rattle.std.specs.Fmt.{digits}
 use Rattle.ps_frame.specs.Trees.{tree_within}
@@ -8,4 +9,4 @@ use Rattle.physical_plans.proofs.plans.physical_plan_of_a_sum.Goals as goal
 
 pub returns : goal.returns
 unfolding digits plan_within tree_within
-returns c F = record { names = counter [] 0; in_use = known F; none_given = refl; given = refl }
+returns c F = record { names = counter [] 0; in_use = known F; none_given = refl; in_range = omega arith; given = refl }

@@ -14,4 +14,4 @@ lower_ir-requires-clause-reached g c κs within = subst (λ (n : Node). Reached 
 pub returns-clause-plan : goal.returns-clause-plan
 returns-clause-plan g c =
     is_physical (g.F.Functions.told c.args.functions.now) c.args.valid.now c.args.expr_arena.now.items c.lower_ir.new.expr_arena.items c.in_ok-low.low c.lower_ir.new.low c.new-cache_nodes.result c.lower_ir.new.cache_nodes c.root.result c.in_ok-stream.stream c.share.new.phys_sm.slots
-    c.requires c.root.ensures c.in_ok-low.ensures.names c.in_ok-low.ensures.first c.in_ok-low.ensures.nodes c.new-cache_nodes.ensures.empty c.in_ok-stream.ensures.lowers c.in_ok-share.ensures.nodes
+    c.requires c.root.ensures c.in_ok-low.ensures.names c.in_ok-low.ensures.first c.in_ok-low.ensures.nodes c.new-cache_nodes.ensures.empty c.in_ok-stream.ensures.lowers c.in_ok-share.ensures.nodes c.counter-counter.ensures.fits
