@@ -1,1 +1,2 @@
 pub mod Weaker
+pub mod Scans

@@ -1,8 +1,8 @@
-//! The physical plan of a plan, with its promise: each port has one reader, and it means what the plan means.
+//! The physical plan of a plan, with its promise: it is sound, and it means what the plan means.
 ghost use Rattle.std.specs.Prelude.{◌≡◌, ◌-◌, Err, IfErr, IfOk, IsSome, OnErr, OnOk, length};
 ghost use Rattle.keyed_slots.specs.Slots.{value_at};
 ghost use Rattle.lowering_parts.specs.Gathered.{Begins, Later};
-ghost use Rattle.physical_laws.specs.Premises.{HasSoundNodes, KeepsSteps};
+ghost use Rattle.physical_laws.specs.Premises.{KeepsSteps};
 ghost use Rattle.physical_plans.specs.PhysicalPlans.{IsPhysicalPlan};
 ghost use Rattle.ps_copies.specs.Copies.{KeepsTrees};
 ghost use Rattle.ps_frame.specs.Trees.{tree_at};
@@ -15,8 +15,9 @@ ghost use Rattle.ps_survey.specs.Flaws.{plan_of};
 ghost use Rattle.ps_validate.specs.Errors.{IsPlanError};
 ghost use Rattle.valid_plans.specs.Valid.{IsValidWith, plan_with};
 
+use crate::tables::tables_fit;
 use keyed_slots::SlotMap;
-use physical_laws::laws::{physical_plans_are_lowerings, physical_plans_have_one_reader_each};
+use physical_laws::laws::{physical_plans_are_lowerings, physical_plans_are_sound};
 use plan_lowering::physical::build_physical_plan as build_by_rule;
 use plan_queries::query::plan_query as query_by_rule;
 use ps_frame::expr::AExpr;
@@ -29,14 +30,12 @@ use std::alloc::Global;
 use valid_plans::valid::Valid;
 
 /// The physical nodes of a valid plan, and the key of its root: the nodes that the root reaches are those that the rules
-/// of lowering give, and each of their ports has exactly one reader. Of the functions it asks whether one streams, and
-/// calls none.
+/// of lowering give, and they are sound; each of their ports has exactly one reader. Of the functions it asks whether one
+/// streams, and calls none.
 ///
-/// Where the nodes that the rules give are sound before multiplexers, whatever number of readers they have, those that the
-/// root reaches are sound. Where moreover each call that the plan makes keeps its step, they are a lowering of the plan:
-/// each table of the last one, which is the root, is within one that the plan's root means under some choice; a cause
-/// that a node shows and that was made at its origin breaks the plan's node of that number; and where a node is large the
-/// plan's node is.
+/// Where each call that the plan makes keeps its step, they are a lowering of the plan: each table of the last one, which
+/// is the root, is within one that the plan's root means under some choice; a cause that a node shows and that was made at
+/// its origin breaks the plan's node of that number; and where a node is large the plan's node is.
 ///
 /// What stood in the arena stands after every answer. Fails only for want of memory; expressions may then have been added.
 pub fn build_physical_plan<F: Functions>(
@@ -48,16 +47,17 @@ pub fn build_physical_plan<F: Functions>(
     requires { IsValidWith (F.told functions.now) valid.now expr_arena.old.items }
     ensures plan { IfOk result (λ r. Later expr_arena.new.items (λ f. IsPhysicalPlan (F.told functions.now) (plan_with valid.now expr_arena.old.items) (shown f r.0.slots r.1.0))) }
     ensures readers { IfOk result (λ r. Later expr_arena.new.items (λ f. HasOneReaderEach (shown f r.0.slots r.1.0))) }
-    ensures sound { HasSoundNodes (F.told functions.now) (plan_with valid.now expr_arena.old.items) → IfOk result (λ r. Later expr_arena.new.items (λ f. IsSound (F.told functions.now) (shown f r.0.slots r.1.0))) }
-    ensures lowering { KeepsSteps (F.told functions.now) (plan_with valid.now expr_arena.old.items) → HasSoundNodes (F.told functions.now) (plan_with valid.now expr_arena.old.items) → IfOk result (λ r. Later expr_arena.new.items (λ f. IsLoweringOf (F.told functions.now) (plan_with valid.now expr_arena.old.items) (shown f r.0.slots r.1.0) (length (shown f r.0.slots r.1.0) - 1))) }
+    ensures sound { IfOk result (λ r. Later expr_arena.new.items (λ f. IsSound (F.told functions.now) (shown f r.0.slots r.1.0))) }
+    ensures lowering { KeepsSteps (F.told functions.now) (plan_with valid.now expr_arena.old.items) → IfOk result (λ r. Later expr_arena.new.items (λ f. IsLoweringOf (F.told functions.now) (plan_with valid.now expr_arena.old.items) (shown f r.0.slots r.1.0) (length (shown f r.0.slots r.1.0) - 1))) }
     ensures root { IfOk result (λ r. IsSome (value_at r.0.slots r.1.0)) }
     ensures whole { IfOk result (λ r. ReadsWhatIsThere r.0.slots) }
     ensures entries { Begins expr_arena.old.items expr_arena.new.items }
     ensures kept { KeepsTrees expr_arena.old.items expr_arena.new.items }
     ensures memory { OnErr result (result ≡ Err PolarsError.OutOfMemory) }
 {
-    // Laws, from which the promise comes; they do nothing.
-    physical_plans_have_one_reader_each();
+    // Laws, from which the promise comes.
+    tables_fit(valid.ir());
+    physical_plans_are_sound();
     physical_plans_are_lowerings();
     build_by_rule(alloc, valid, expr_arena, functions)
 }
@@ -77,15 +77,16 @@ pub fn plan_query<F: Functions>(
     ensures valid { OnOk result (IsValid (F.told functions.now) (plan_of node ir_arena.items expr_arena.old.items)) }
     ensures plan { IfOk result (λ r. IsPhysicalPlan (F.told functions.now) (plan_of node ir_arena.items expr_arena.old.items) (shown (tree_at expr_arena.new.items) r.0.slots r.1.0)) }
     ensures readers { IfOk result (λ r. HasOneReaderEach (shown (tree_at expr_arena.new.items) r.0.slots r.1.0)) }
-    ensures sound { HasSoundNodes (F.told functions.now) (plan_of node ir_arena.items expr_arena.old.items) → IfOk result (λ r. IsSound (F.told functions.now) (shown (tree_at expr_arena.new.items) r.0.slots r.1.0)) }
-    ensures lowering { KeepsSteps (F.told functions.now) (plan_of node ir_arena.items expr_arena.old.items) → HasSoundNodes (F.told functions.now) (plan_of node ir_arena.items expr_arena.old.items) → IfOk result (λ r. IsLoweringOf (F.told functions.now) (plan_of node ir_arena.items expr_arena.old.items) (shown (tree_at expr_arena.new.items) r.0.slots r.1.0) (length (shown (tree_at expr_arena.new.items) r.0.slots r.1.0) - 1)) }
+    ensures sound { IfOk result (λ r. IsSound (F.told functions.now) (shown (tree_at expr_arena.new.items) r.0.slots r.1.0)) }
+    ensures lowering { KeepsSteps (F.told functions.now) (plan_of node ir_arena.items expr_arena.old.items) → IfOk result (λ r. IsLoweringOf (F.told functions.now) (plan_of node ir_arena.items expr_arena.old.items) (shown (tree_at expr_arena.new.items) r.0.slots r.1.0) (length (shown (tree_at expr_arena.new.items) r.0.slots r.1.0) - 1)) }
     ensures root { IfOk result (λ r. IsSome (value_at r.0.slots r.1.0)) }
     ensures whole { IfOk result (λ r. ReadsWhatIsThere r.0.slots) }
     ensures refused { IfErr result (IsPlanError (F.told functions.now) (plan_of node ir_arena.items expr_arena.old.items)) }
     ensures entries { Begins expr_arena.old.items expr_arena.new.items }
     ensures kept { KeepsTrees expr_arena.old.items expr_arena.new.items }
 {
-    physical_plans_have_one_reader_each();
+    tables_fit(&ir_arena);
+    physical_plans_are_sound();
     physical_plans_are_lowerings();
     query_by_rule(alloc, node, ir_arena, expr_arena, functions)
 }

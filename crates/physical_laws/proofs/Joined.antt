@@ -3,6 +3,7 @@ use Rattle.std.proofs.Common.{◌<◌, ◌-◌, ℕ, length, sym, subst}
 use Rattle.ps_frame.specs.Functions.{Functions, IsLawful}
 use Rattle.ps_meaning.specs.Shape.{Shape}
 use Rattle.ps_meaning.specs.Sound.{HasOneReaderEach, IsSound, IsSoundButForReaders}
+use Rattle.ps_plan.specs.Graph.{EachReached}
 use Rattle.ps_plan.specs.Lowering.{IsLoweringOf}
 use Rattle.ps_plan.specs.Plans.{Plan, tree_of}
 use Rattle.ps_plan.specs.Refusals.{IsValid}
@@ -16,7 +17,9 @@ use Rattle.arena_keeps.proofs.Stored.{stored, whole_stands}
 use Rattle.multiplexer_laws.proofs.Meaning.{still_lowered}
 use Rattle.rule_ports.proofs.Plans.{sunk_reads, sunk_sink, sunk_there}
 use Rattle.physical_laws.proofs.Fed.{fed_plan, sunk_plan}
-use Rattle.physical_laws.specs.Premises.{HasSoundNodes, KeepsSteps}
+use Rattle.physical_laws.proofs.Good.{plan_nodes_sound}
+use Rattle.physical_laws.specs.Premises.{KeepsSteps}
+use Rattle.rule_nodes.specs.Good.{HoldsTable}
 
 -- laws of multiplexers
 abbrev pub OneReader : Type 0
@@ -44,14 +47,17 @@ module _ (F : Functions) (plan : Plan) (shape : Shape) (valid : IsValid F plan) 
   pub one_reader : OneReader → HasOneReaderEach shape
   one_reader law = subst HasOneReaderEach (sym p.given) (law nodes low.stream.0 there reads sinks)
 
-  pub is_sound : Soundly → HasSoundNodes F plan → IsSound F shape
-  is_sound law sound = subst (λ (s : Shape). IsSound F s) (sym p.given) (law F nodes low.stream.0 there reads sinks (sound p.names (p.in_use, p.none_given)))
+  nodes_sound : EachReached HoldsTable plan → IsSoundButForReaders F nodes
+  nodes_sound holds = plan_nodes_sound F plan valid holds p.names p.in_use p.in_range
 
-  pub is_lowering : IsLawful F → KeepsSteps F plan → HasSoundNodes F plan → IsLoweringOf F plan shape (length shape - 1)
-  is_lowering lawful kept sound =
-      let s = sound p.names (p.in_use, p.none_given) in
+  pub is_sound : Soundly → EachReached HoldsTable plan → IsSound F shape
+  is_sound law holds = subst (λ (s : Shape). IsSound F s) (sym p.given) (law F nodes low.stream.0 there reads sinks (nodes_sound holds))
+
+  pub is_lowering : IsLawful F → EachReached HoldsTable plan → KeepsSteps F plan → IsLoweringOf F plan shape (length shape - 1)
+  is_lowering lawful holds kept =
+      let s = nodes_sound holds in
       let l = valid_lowered F plan p.names lawful valid (kept p.names (p.in_use, p.none_given)) s in
       subst (λ (x : Shape). IsLoweringOf F plan x (length x - 1)) (sym p.given) (still_lowered F nodes low.stream.0 there reads s plan l)
 
-  pub covered_lowering : IsLawful F → IsCovered F (tree_of plan plan.root.0) → HasSoundNodes F plan → IsLoweringOf F plan shape (length shape - 1)
-  covered_lowering lawful covered sound = is_lowering lawful (λ names used. covered_kept F (stored F plan valid) (tree_of plan plan.root.0) (whole_stands F plan valid) covered names) sound
+  pub covered_lowering : IsLawful F → EachReached HoldsTable plan → IsCovered F (tree_of plan plan.root.0) → IsLoweringOf F plan shape (length shape - 1)
+  covered_lowering lawful holds covered = is_lowering lawful holds (λ names used. covered_kept F (stored F plan valid) (tree_of plan plan.root.0) (whole_stands F plan valid) covered names)

@@ -1,2 +1,3 @@
 pub mod Fed
+pub mod Good
 pub mod Joined

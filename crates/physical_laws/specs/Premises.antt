@@ -1,12 +1,11 @@
--- What isn't proved of every valid plan: that each call keeps its step, and that the nodes are sound.
+-- What isn't proved of every valid plan: that each call keeps its step.
 use Rattle.std.specs.Prelude.{◌≡◌}
 use Rattle.ps_frame.specs.Functions.{Functions}
 use Rattle.ps_fresh.specs.InPlans.{IsNameUnder}
-use Rattle.ps_meaning.specs.Sound.{IsSoundButForReaders}
 use Rattle.ps_plan.specs.Plans.{Plan, tree_of}
 use Rattle.ps_rules.specs.Names.{Knows, Names}
 use Rattle.plan_keeps.specs.Kept.{IsKeptPlan}
-use Rattle.plan_rules.specs.Plans.{lowering_of, nothing_yet}
+use Rattle.plan_rules.specs.Plans.{nothing_yet}
 
 -- each name under the plan's root is in use, and no fresh one was given
 abbrev pub AreAllInUse : Functions → Plan → Names → Type 0
@@ -15,7 +14,3 @@ AreAllInUse F plan names = Knows names (IsNameUnder F plan) × (names.next ≡ 0
 -- each call that the plan makes keeps its step
 abbrev pub KeepsSteps : Functions → Plan → Type 0
 KeepsSteps F plan = (names : Names) → AreAllInUse F plan names → IsKeptPlan F (tree_of plan plan.root.0) (nothing_yet names)
-
--- the nodes that the rules give are sound, whatever number of readers they have
-abbrev pub HasSoundNodes : Functions → Plan → Type 0
-HasSoundNodes F plan = (names : Names) → AreAllInUse F plan names → IsSoundButForReaders F (lowering_of F names (tree_of plan plan.root.0)).progress.state.nodes
