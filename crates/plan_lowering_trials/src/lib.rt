@@ -2,6 +2,4 @@
 #![tactic(auto)]
 
 #[cfg(test)]
-mod functions;
-#[cfg(test)]
 mod plans;

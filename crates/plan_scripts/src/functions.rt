@@ -1,4 +1,4 @@
-// Functions over tables, for trials.
+//! Functions over tables, for trials.
 
 use ps_frame::frame::DataFrame;
 use ps_frame::functions::{CallError, Functions};
@@ -7,7 +7,7 @@ use std::alloc::Global;
 
 /// Two functions, which answer a table by itself; the first of them streams.
 #[derive(Clone, Copy, Debug)]
-pub(crate) struct TwoSame;
+pub struct TwoSame;
 
 impl Functions for TwoSame {
     ghost use Rattle.std.specs.Prelude.{◌==◌, Option, Some, option_map, refl};
