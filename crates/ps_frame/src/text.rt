@@ -8,15 +8,17 @@ use pu_base::PlSmallStr;
 use std::alloc::Global;
 use std::fmt;
 use std::marker::Model;
+use std::sync::Arc;
 
 // So many bytes take one allocation.
 const SHORT: usize = 24;
 
 /// The text of a cell, seen as its bytes. Where it stands it takes 8 bytes, as a whole number does, so
-/// that a column of numbers pays nothing for texts; its bytes lie elsewhere.
+/// that a column of numbers pays nothing for texts; its bytes lie elsewhere, and its clones share them, so
+/// that a long text in many rows takes its bytes once.
 #[derive(Drop)]
 pub struct CellText {
-    text: Box<Content>,
+    text: Arc<Content>,
 }
 
 /// A short text in its place, or a longer one that takes a second allocation.
@@ -27,12 +29,13 @@ enum Content {
 }
 
 impl Model for CellText {
+    ghost use Rattle.std.specs.Arc.{arc_value};
     ghost use Rattle.std.specs.Prelude.{List, ℕ};
     ghost use Rattle.ps_frame.specs.Texts.{bytes_of};
 
     ghost Value = { List ℕ };
 
-    ghost view = { λ a. bytes_of a.text.value };
+    ghost view = { λ a. bytes_of (arc_value a.text) };
 }
 
 impl Content {
@@ -69,7 +72,18 @@ impl CellText {
         ensures memory { OnErr result (result ≡ Err FrameError.OutOfMemory) }
     {
         let content = Content::of(alloc, text)?;
-        let text = Box::new(alloc, content)?;
+        let text = Arc::new(alloc, content)?;
+        Ok(CellText { text })
+    }
+
+    /// The same text, whose bytes are shared and not copied.
+    ///
+    /// Fails only for want of memory: where there are more owners than can be counted.
+    pub fn try_clone(&self) -> Result<CellText, FrameError>
+        ensures same { IfOk result (λ copy. copy ≡ self.now) }
+        ensures memory { OnErr result (result ≡ Err FrameError.OutOfMemory) }
+    {
+        let text = Arc::try_clone(&self.text)?;
         Ok(CellText { text })
     }
 

@@ -133,10 +133,10 @@ impl Value {
         Ok(Value::String(CellText::from_str(alloc, text)?))
     }
 
-    /// An equal value.
+    /// An equal value; a text's bytes are shared.
     ///
     /// Fails only for want of memory.
-    pub fn try_clone(&self, alloc: Global) -> Result<Value, FrameError>
+    pub fn try_clone(&self, _: Global) -> Result<Value, FrameError>
         ensures same { IfOk result (λ v. v ≡ self.now) }
         ensures memory { OnErr result (result ≡ Err FrameError.OutOfMemory) }
     {
@@ -145,7 +145,7 @@ impl Value {
             Value::Boolean(b) => Ok(Value::Boolean(*b)),
             Value::Int64(z) => Ok(Value::Int64(*z)),
             Value::IdxSize(n) => Ok(Value::IdxSize(*n)),
-            Value::String(s) => Value::of_text(alloc, s.as_str()),
+            Value::String(s) => Ok(Value::String(s.try_clone()?)),
         }
     }
 }
