@@ -37,7 +37,7 @@ use Rattle.ps_shares.proofs.Members.{to_has}
 use Rattle.ps_bundles.proofs.Reading.{among_last, or_first, or_last}
 use Rattle.std.specs.Cmp.Lexicographic.{bytes_decides}
 use Rattle.std.specs.Str.{bytes_eq}
-use Rattle.lowering_names.proofs.Times.{distinct_once, once_never}
+use Rattle.name_rules.proofs.Times.{distinct_once, once_never}
 use Rattle.lowering_laws.specs.Kept.{KeepsSelect}
 use Rattle.kept_trials.specs.Scanned.{ScansWhole, SelectsFrom, SelectsScan, source_made}
 

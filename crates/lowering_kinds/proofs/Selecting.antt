@@ -3,7 +3,6 @@ use Rattle.std.proofs.Common.{◌≡◌, ℕ, ◌≤◌, ◌^◌, Bool, true, fa
 use Rattle.std.specs.Prelude.{IsTrue, Option, is_some, map, slice_get, unwrap_or}
 use Rattle.std.specs.Cmp.Lexicographic.{bytes_decides}
 use Rattle.std.specs.List.{AllByRecursion, list_all}
-use Rattle.std.specs.Str.{bytes_eq}
 use Rattle.ps_frame.specs.Frames.{has_distinct_names}
 use Rattle.ps_frame.specs.Functions.{Functions}
 use Rattle.ps_frame.specs.Tables.{Fields, field_kind}
@@ -24,6 +23,7 @@ use Rattle.ps_shares.proofs.Ends.{same_fields, under_own}
 use Rattle.ps_shares.proofs.FlatLength.{both_hold}
 use Rattle.ps_bundles.proofs.Reading.{kinds_own}
 use Rattle.ps_bundles.proofs.ZipEnds.{differ}
+use Rattle.name_rules.proofs.Items.{same_is}
 use Rattle.lowering_kinds.specs.Kinds.{SelectsHaveFields}
 use Rattle.lowering_kinds.proofs.Staying.{kinds_stay}
 
@@ -43,16 +43,6 @@ own_is n (Tree.slice e o l) h = absurd (differ (sym h))
 own_is n Tree.len h = absurd (differ (sym h))
 own_is n (Tree.left_out w) h = absurd (differ (sym h))
 own_is n Tree.missing h = absurd (differ (sym h))
-
-pub same_is : (xs ys : List Name) → same_names xs ys ≡ true → xs ≡ ys
-same_is [] [] h = refl
-same_is [] (y ∷ ys) h = absurd (differ (sym h))
-same_is (x ∷ xs) [] h = absurd (differ (sym h))
-same_is (x ∷ xs) (y ∷ ys) h =
-    let b = both_hold (bytes_eq x y) (same_names xs ys) h in
-    let p = (bytes_decides x y).0 b.0 in
-    let q = same_is xs ys b.1 in
-    λ i. p i ∷ q i
 
 last_schema : (nodes : Shape) (p : PhysicalNode) → schema_or_none (slice_get (nodes ++ p ∷ []) (length nodes)) ≡ p.schema
 last_schema [] p = refl

@@ -14,7 +14,7 @@ use Rattle.ps_frame.specs.Trees.{Tree}
 use Rattle.ps_rules.specs.Lowered.{lower_exprs, select_stream}
 use Rattle.ps_rules.specs.Slots.{State, Stream, schema_at as stream_schema, under}
 use Rattle.ps_bundles.specs.Lowers.{HaveKinds}
-use Rattle.lowering_names.specs.Lawful.{Differ}
+use Rattle.name_rules.specs.Lawful.{Differ}
 use Rattle.lowering_sound.specs.Sound.{StaysSound}
 
 -- the names under which expressions are asked for

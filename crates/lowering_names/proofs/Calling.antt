@@ -3,7 +3,6 @@ use Rattle.std.proofs.Common.{◌≡◌, ◌≢◌, ℕ, suc, ◌+◌, ◌≤◌
 use Rattle.std.specs.Prelude.{IsTrue, flat_map, is_some, map, slice_get, unwrap_or, ◌==◌, ◌&&◌}
 use Rattle.std.specs.List.{AllByRecursion, list_all}
 use Rattle.std.proofs.lemmas.Bool.{eqb-true}
-use Rattle.std.proofs.lemmas.List.{length-map}
 use Rattle.std.proofs.lemmas.Option.{slice_get_within}
 use Rattle.ps_frame.proofs.Lists.{and_both}
 use Rattle.ps_frame.specs.Causes.{is_empty}
@@ -34,63 +33,18 @@ use Rattle.ps_bundles.proofs.CallSteps.{all_and}
 use Rattle.ps_bundles.proofs.Reading.{has_fields}
 use Rattle.ps_bundles.proofs.Together.{kept_names}
 use Rattle.ps_bundles.proofs.ZipEnds.{is_some as is_not_empty}
+use Rattle.name_rules.proofs.Listing.{empty_none, joined_streams}
+use Rattle.name_rules.specs.Lawful.{KeepsRules}
+use Rattle.name_rules.proofs.Extending.{Extends, extends_none, extends_one, extends_then}
+use Rattle.name_rules.proofs.Items.{all_some, as_many, count_names, each_among, found_among, items_some, kinds_same, names_under, operands_listed, some_under, times_items}
+use Rattle.name_rules.proofs.Ruling.{field_names, independent_right, map_right, project_right, reduce_right, select_right, some_fields, typed_fields, zip_right}
+use Rattle.name_rules.proofs.Streams.{Held, are_nodes, held_fewer, held_input, held_last, held_moved, held_none, held_one, held_then, zip_once, zip_some}
+use Rattle.name_rules.proofs.Times.{FreshOnce, distinct_once, fewer_fresh, names_fresh, one_fresh, times, times_among}
 use Rattle.lowering_nodes.specs.Formed.{NewAreFormed}
 use Rattle.lowering_nodes.proofs.Forming.{exprs_form_nodes}
-use Rattle.lowering_nodes.proofs.Listing.{empty_none, joined_streams}
 use Rattle.lowering_kinds.proofs.Selecting.{exprs_back, items_of, named_back, names_back, operands_back, own_fields}
 use Rattle.lowering_kinds.proofs.Staying.{kinds_stay}
-use Rattle.lowering_names.specs.Lawful.{KeepsRules}
-use Rattle.lowering_names.proofs.Extending.{Extends, extends_none, extends_one, extends_then}
-use Rattle.lowering_names.proofs.Keeping.{all_kept, each_among, found_among, kept_once, some_kept}
-use Rattle.lowering_names.proofs.Ruling.{field_names, independent_right, map_right, project_right, reduce_right, select_right, some_fields, typed_fields, zip_right}
-use Rattle.lowering_names.proofs.Streams.{Held, are_nodes, held_fewer, held_input, held_last, held_moved, held_none, held_one, held_then, zip_once, zip_some}
-use Rattle.lowering_names.proofs.Times.{FreshOnce, distinct_once, fewer_fresh, names_fresh, one_fresh, times, times_among}
-
--- of items
-pub times_items : (n : Name) (xs ys : List Named) → times n (expr_names (xs ++ ys)) ≡ times n (expr_names xs) + times n (expr_names ys)
-times_items n [] ys = omega arith
-times_items n (x ∷ xs) ys = let r = times_items n xs ys in omega arith
-
-pub names_under : (ns : List Name) (es : List Tree) → length ns ≡ length es → expr_names (under ns es) ≡ ns
-names_under [] es e = refl
-names_under (n ∷ ns) [] e = absurd (omega arith)
-names_under (n ∷ ns) (x ∷ es) e = ap (λ ms. n ∷ ms) (names_under ns es (omega arith))
-
-pub some_under : (ns : List Name) (es : List Tree) → length ns ≡ length es → es ≢ [] → under ns es ≢ []
-some_under ns [] l some e = some refl
-some_under [] (x ∷ es) l some e = absurd (omega arith)
-some_under (n ∷ ns) (x ∷ es) l some e = let w : (n, x) ∷ under ns es ≡ [] = e in cc
-
-pub count_names : {A : Type 0} (xs : List A) (s : State) → length (new_names xs s) ≡ length xs
-count_names [] s = refl
-count_names (x ∷ xs) s = ap suc (count_names xs (after_name s))
-
--- kinds of a list
-pub all_some : (g : Fields) (es : List Tree) → AllByRecursion (λ e. IsTrue (is_some (kind_over g e))) es → have_all_kinds g es ≡ true
-all_some g [] h = refl
-all_some g (e ∷ es) h = and_both (is_some (kind_over g e)) (have_all_kinds g es) h.0 (all_some g es h.1)
-
-pub each_some : (g : Fields) (es : List Tree) → have_all_kinds g es ≡ true → AllByRecursion (λ e. IsTrue (is_some (kind_over g e))) es
-each_some g [] h = tt
-each_some g (e ∷ es) h = let b = both_hold (is_some (kind_over g e)) (have_all_kinds g es) h in (b.0, each_some g es b.1)
-
-pub items_some : (g : Fields) (rs : List Named) → AllByRecursion (λ (m : Named). IsTrue (is_some (kind_over g m.1))) rs → have_all_kinds g (exprs_of rs) ≡ true
-items_some g [] h = refl
-items_some g (m ∷ rs) h = and_both (is_some (kind_over g m.1)) (have_all_kinds g (exprs_of rs)) h.0 (items_some g rs h.1)
-
--- expressions of the same kinds
-pub kinds_same : (g h : Fields) (xs ys : List Tree) → map (kind_over g) xs ≡ map (kind_over h) ys → have_all_kinds h ys ≡ true → have_all_kinds g xs ≡ true
-kinds_same g h [] ys e typed = refl
-kinds_same g h (x ∷ xs) [] e typed = let w : kind_over g x ∷ map (kind_over g) xs ≡ [] = e in cc
-kinds_same g h (x ∷ xs) (y ∷ ys) e typed =
-    let w : kind_over g x ∷ map (kind_over g) xs ≡ kind_over h y ∷ map (kind_over h) ys = e in
-    let p : kind_over g x ≡ kind_over h y = cc in
-    let q : map (kind_over g) xs ≡ map (kind_over h) ys = cc in
-    let b = both_hold (is_some (kind_over h y)) (have_all_kinds h ys) typed in
-    and_both (is_some (kind_over g x)) (have_all_kinds g xs) (ap is_some p ∙ b.0) (kinds_same g h xs ys q b.1)
-
-pub as_many : (g h : Fields) (xs ys : List Tree) → map (kind_over g) xs ≡ map (kind_over h) ys → length xs ≡ length ys
-as_many g h xs ys e = sym (length-map xs (kind_over g)) ∙ ap length e ∙ length-map ys (kind_over h)
+use Rattle.lowering_names.proofs.Keeping.{all_kept, kept_once, some_kept}
 
 alone_typed : (g : Fields) (es : List Tree) → list_all is_independent es ≡ true → have_all_kinds g es ≡ true → have_all_kinds [] es ≡ true
 alone_typed g [] i h = refl
@@ -98,10 +52,6 @@ alone_typed g (e ∷ es) i h =
     let a = both_hold (is_independent e) (list_all is_independent es) i in
     let b = both_hold (is_some (kind_over g e)) (have_all_kinds g es) h in
     and_both (is_some (kind_over [] e)) (have_all_kinds [] es) (ap is_some (same-kind [] g e a.0) ∙ b.0) (alone_typed g es a.1 b.1)
-
-pub operands_listed : (at : ℕ) (input : Stream) (es : List Tree) → exprs_of_all (map (as_operand at input) es) ≡ es
-operands_listed at input [] = refl
-operands_listed at input (e ∷ es) = ap (λ es. e ∷ es) (operands_listed at input es)
 
 none_some : {A : Type 0} (xs : List A) (n : ℕ) → xs ≢ [] → 1 ≤ length xs
 none_some [] n some = absurd (some refl)

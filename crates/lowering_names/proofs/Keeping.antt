@@ -1,45 +1,24 @@
 -- The columns that a map keeps of its input, and expressions over these.
-use Rattle.std.proofs.Common.{◌≡◌, ◌≢◌, inl, inr, ℕ, ◌+◌, ◌≤◌, Bool, true, false, cond, List, [], ◌∷◌, Some, None, refl, sym, ap, ◌∙◌, arith}
-use Rattle.std.specs.Prelude.{IsTrue, Option, filter, is_some, map, ◌||◌}
-use Rattle.std.specs.Cmp.Lexicographic.{bytes_decides}
+use Rattle.std.proofs.Common.{◌≡◌, ◌≢◌, inl, inr, ℕ, ◌+◌, ◌≤◌, Bool, true, false, cond, List, [], ◌∷◌, Some, None, refl, ap, ◌∙◌, arith}
+use Rattle.std.specs.Prelude.{IsTrue, filter, is_some}
 use Rattle.std.specs.List.{AllByRecursion, list_any}
 use Rattle.std.specs.Str.{bytes_eq}
 use Rattle.ps_frame.proofs.Lists.{and_both}
-use Rattle.ps_frame.specs.Causes.{value}
 use Rattle.ps_frame.specs.Functions.{Functions}
 use Rattle.ps_frame.specs.Parts.{reads_column}
-use Rattle.ps_frame.specs.Tables.{Fields, Table, field_index, field_kind, no_rows, table_column, values_at_some}
-use Rattle.ps_frame.specs.Trees.{Tree}
+use Rattle.ps_frame.specs.Tables.{Fields, Table, no_rows}
 use Rattle.ps_frame.specs.Typing.{kind_over}
-use Rattle.ps_frame.specs.declared.value.DataType.{DataType}
-use Rattle.ps_meaning.specs.Schemas.{both as both_of, is_among, named_fields, names_of}
+use Rattle.ps_meaning.specs.Schemas.{names_of}
 use Rattle.ps_meaning.specs.Shape.{IsPhysicalChoice}
 use Rattle.ps_meaning.specs.Sound.{have_all_kinds}
 use Rattle.ps_meaning.specs.Steps.{Name, Named, exprs_of}
 use Rattle.ps_rules.specs.Bundles.{names_kept, names_read, or_first}
 use Rattle.ps_rules.specs.Slots.{Stream, same_names}
-use Rattle.ps_shares.specs.Leaves.{IsSameIn}
-use Rattle.ps_shares.proofs.Agreeing.{same_kind}
 use Rattle.ps_shares.proofs.Members.{Has}
-use Rattle.ps_shares.proofs.Projected.{kind_as, named_as, reads_all}
 use Rattle.ps_bundles.proofs.Reading.{HasFields}
 use Rattle.ps_bundles.proofs.Together.{reads_kept}
-use Rattle.lowering_names.proofs.Times.{times}
-
--- kinds where the columns that are read are the same
-pub kind_same : (g h : Fields) (e : Tree) → ((n : Name) → IsTrue (reads_column n e) → field_kind n g ≡ field_kind n h) → kind_over g e ≡ kind_over h e
-kind_same g h e same = same_kind (no_rows g []) (no_rows h []) e (reads_all (IsSameIn (no_rows g []) (no_rows h [])) e (λ n read. record { column = column n; kind = same n read }))
-  where
-    none : (o : Option ℕ) → map value (values_at_some o []) ≡ []
-    none None = refl
-    none (Some i) = refl
-
-    column : (n : Name) → table_column n (no_rows g []) ≡ table_column n (no_rows h [])
-    column n =
-        let p = none (field_index n g) in
-        let q = none (field_index n h) in
-        let cells = p ∙ sym q in
-        λ i. record { cells = cells i; broken = []; lost = [] }
+use Rattle.name_rules.proofs.Times.{times}
+use Rattle.name_rules.proofs.Items.{kind_same}
 
 -- items over the columns that are kept for them
 module _ (F : Functions) (at : ℕ) (input : Stream) (g : Fields) (items : List Named) (typed : AllByRecursion (λ (m : Named). IsTrue (is_some (kind_over g m.1))) items) (fs : HasFields (names_kept items g) g) where
@@ -86,22 +65,3 @@ some_kept items g = by (names_read items g) (names_of g)
     by [] [] q e = let w : true ≡ false = q in cc
     by [] (n ∷ ns) q e = let w : n ∷ [] ≡ [] = e in cc
     by (m ∷ ms) ns q e = let w : m ∷ ms ≡ [] = e in cc
-
-pub each_among : (ns ms : List Name) → AllByRecursion (λ n. is_among n ms ≡ true) ns → (m : Name) → is_among m ns ≡ true → is_among m ms ≡ true
-each_among [] ms all m h = cc
-each_among (n ∷ ns) ms all m h = by (bytes_eq m n) refl h (each_among ns ms all.1 m)
-  where
-    by : (b : Bool) → bytes_eq m n ≡ b → (b || is_among m ns) ≡ true → (is_among m ns ≡ true → is_among m ms ≡ true) → is_among m ms ≡ true
-    by true q h rest = ap (λ k. is_among k ms) ((bytes_decides m n).0 q) ∙ all.0
-    by false q h rest = rest h
-
--- columns that were found stand in the schema
-pub found_among : (ns : List Name) (g fs : Fields) → named_fields ns g ≡ Some fs → AllByRecursion (λ n. is_among n (names_of g) ≡ true) ns
-found_among [] g fs h = tt
-found_among (n ∷ ns) g fs h = by (field_kind n g) (named_fields ns g) refl h (found_among ns g)
-  where
-    by : (o : Option DataType) (r : Option Fields) → field_kind n g ≡ o → both_of (λ (k : DataType) (gs : Fields). (n, k) ∷ gs) o r ≡ Some fs → ((gs : Fields) → r ≡ Some gs → AllByRecursion (λ n. is_among n (names_of g) ≡ true) ns)
-        → (is_among n (names_of g) ≡ true) × AllByRecursion (λ n. is_among n (names_of g) ≡ true) ns
-    by (Some k) (Some gs) q h rest = (named_as n g ∙ sym (kind_as n g) ∙ ap is_some q, rest gs refl)
-    by (Some k) None q h rest = let w : None ≡ Some fs = h in cc
-    by None r q h rest = let w : None ≡ Some fs = h in cc

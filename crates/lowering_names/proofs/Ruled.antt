@@ -15,12 +15,14 @@ use Rattle.ps_shares.specs.Kept.{IsOrdered, IsReady}
 use Rattle.ps_shares.proofs.Adding.{calls_add}
 use Rattle.ps_shares.proofs.Members.{from_has}
 use Rattle.ps_bundles.proofs.ExprEnds.{from_each}
-use Rattle.lowering_nodes.proofs.Listing.{schemas_before}
-use Rattle.lowering_names.specs.Lawful.{ExprsKeepRules, KeepsRules, NewKeepRules, SelectsKeepRules}
-use Rattle.lowering_names.proofs.Calling.{AllTyped, Fine, Makes, Right, answered_right, each_some, select_makes}
-use Rattle.lowering_names.proofs.Extending.{found}
+use Rattle.name_rules.proofs.Listing.{schemas_before}
+use Rattle.name_rules.specs.Lawful.{KeepsRules}
+use Rattle.name_rules.proofs.Items.{each_some}
+use Rattle.name_rules.proofs.Extending.{found}
+use Rattle.name_rules.proofs.Times.{never_once}
+use Rattle.lowering_names.specs.Lawful.{ExprsKeepRules, NewKeepRules, SelectsKeepRules}
+use Rattle.lowering_names.proofs.Calling.{AllTyped, Fine, Makes, Right, answered_right, select_makes}
 use Rattle.lowering_names.proofs.Stepping.{list_steps}
-use Rattle.lowering_names.proofs.Times.{never_once}
 
 module _ (F : Functions) (at : ℕ) (input : Stream) (s : State) (es : List Tree) (ready : IsReady s input es) where
   abbrev node : PhysicalNode

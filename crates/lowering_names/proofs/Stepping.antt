@@ -38,14 +38,14 @@ use Rattle.ps_shares.proofs.Stands.{some_aggregate, some_binary, some_branch, so
 use Rattle.ps_bundles.proofs.Reading.{has_fields}
 use Rattle.ps_bundles.proofs.SortSteps.{cons_some, split_fields}
 use Rattle.ps_bundles.proofs.ZipEnds.{differ}
-use Rattle.lowering_kinds.proofs.Selecting.{items_of, same_is, selects_have_fields}
-use Rattle.lowering_names.specs.Lawful.{KeepsRules}
-use Rattle.lowering_names.proofs.Calling.{Does, AllDo, AllTyped, Fine, Good, Later, Makes, Right, StepTo, Steps, Typed, answered_kinds, answered_later, answered_right, bundle_steps, count_names, fine_later, given_steps, is_node, later_then, left_steps, names_under, ops, ready, reduction_steps, schema_is, select_makes, some_under, stays_or_steps, together_later, together_right}
-use Rattle.lowering_names.proofs.Extending.{extends_none, extends_one, extends_then}
-use Rattle.lowering_names.proofs.Keeping.{each_among}
-use Rattle.lowering_names.proofs.Ruling.{FlagsFit, field_names, filter_right, project_right, reduce_right, some_fields, sort_right, typed_fields}
-use Rattle.lowering_names.proofs.Streams.{same_is as same_stream_is}
-use Rattle.lowering_names.proofs.Times.{FreshOnce, fewer_fresh, names_fresh, one_fresh, times}
+use Rattle.name_rules.proofs.Items.{count_names, each_among, names_under, same_is, some_under}
+use Rattle.name_rules.specs.Lawful.{KeepsRules}
+use Rattle.name_rules.proofs.Extending.{extends_none, extends_one, extends_then}
+use Rattle.name_rules.proofs.Ruling.{FlagsFit, field_names, filter_right, project_right, reduce_right, some_fields, sort_right, typed_fields}
+use Rattle.name_rules.proofs.Streams.{same_is as same_stream_is}
+use Rattle.name_rules.proofs.Times.{FreshOnce, fewer_fresh, names_fresh, one_fresh, times}
+use Rattle.lowering_kinds.proofs.Selecting.{items_of, selects_have_fields}
+use Rattle.lowering_names.proofs.Calling.{Does, AllDo, AllTyped, Fine, Good, Later, Makes, Right, StepTo, Steps, Typed, answered_kinds, answered_later, answered_right, bundle_steps, fine_later, given_steps, is_node, later_then, left_steps, ops, ready, reduction_steps, schema_is, select_makes, stays_or_steps, together_later, together_right}
 
 -- names that were fresh still are once more are known
 later_fresh : (a b c : Names) (u : Name → ℕ) → Grown b c → FreshOnce a b u → FreshOnce a c u

@@ -1,31 +1,19 @@
 -- Which rules on names and kinds the nodes keep that the rules on expressions make.
-use Rattle.std.specs.Prelude.{◌≡◌, ◌≢◌, ℕ, ◌≤◌, ◌^◌, List, [], length, Some, slice_get, IsTrue}
+use Rattle.std.specs.Prelude.{◌≡◌, ℕ, ◌≤◌, ◌^◌, List, length, Some, slice_get}
 use Rattle.ps_frame.specs.Functions.{Functions}
-use Rattle.ps_frame.specs.Tables.{Fields}
 use Rattle.ps_frame.specs.Trees.{Tree}
 use Rattle.ps_meaning.specs.Schemas.{expr_names}
-use Rattle.ps_meaning.specs.Shape.{PhysicalKind, PhysicalNode, Shape}
-use Rattle.ps_meaning.specs.Sound.{BreaksNoRule, HasSchema, have_kinds_over, input_schemas, rules_of}
-use Rattle.ps_meaning.specs.StepRefusals.{repeats}
-use Rattle.ps_meaning.specs.Steps.{Name, Named, exprs_of}
+use Rattle.ps_meaning.specs.Shape.{PhysicalNode, Shape}
+use Rattle.ps_meaning.specs.Sound.{input_schemas}
+use Rattle.ps_meaning.specs.Steps.{Named, exprs_of}
 use Rattle.ps_rules.specs.Lowered.{lower_exprs, select_stream}
 use Rattle.ps_rules.specs.Slots.{State, Stream}
 use Rattle.ps_shares.specs.Kept.{IsReady}
-
--- Over inputs of these schemas the kind gives the schema s, which has a column; its expressions have kinds, and no rule on names and kinds is broken: no name stands twice, and each column that is read is there.
-pub record KeepsRules (F : Functions) (kind : PhysicalKind) (s : Fields) (ss : List Fields) : Type 0 where
-  pub schema : HasSchema F kind ss s
-  pub not_empty : s ≢ []
-  pub kinds : IsTrue (have_kinds_over ss (rules_of kind))
-  pub rules : BreaksNoRule F (rules_of kind) ss
+use Rattle.name_rules.specs.Lawful.{Differ, KeepsRules}
 
 -- each node from the first new one on
 abbrev pub NewKeepRules : Functions → (before after : Shape) → Type 0
 NewKeepRules F before after = (n : ℕ) (p : PhysicalNode) → length before ≤ n → slice_get after n ≡ Some p → KeepsRules F p.kind p.schema (input_schemas after p)
-
--- no name stands twice
-abbrev pub Differ : List Name → Type 0
-Differ ns = (n : Name) → ¬ IsTrue (repeats n ns)
 
 -- The counter stays in 64 bits: past that two numbers may have one name.
 abbrev pub ExprsKeepRules : Type 0

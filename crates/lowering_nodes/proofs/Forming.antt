@@ -30,7 +30,7 @@ use Rattle.ps_bundles.proofs.ExprEnds.{from_each}
 use Rattle.ps_bundles.proofs.SortSteps.{under_operands}
 use Rattle.ps_bundles.proofs.ZipEnds.{differ}
 use Rattle.lowering_nodes.specs.Formed.{ExprsFormNodes, NewAreFormed, SelectsFormNodes}
-use Rattle.lowering_nodes.proofs.Listing.{added_more, added_some, all_added_more, all_added_some, and_true, any_reads, columns_read, count_columns, count_items, either_false, empty_none, false_one, first_reduced, items_all, list_plain, one_holds, plain_columns, some_operands, under_independent, at_seam, joined_streams, schemas_before}
+use Rattle.name_rules.proofs.Listing.{added_more, added_some, all_added_more, all_added_some, and_true, any_reads, columns_read, count_columns, count_items, either_false, empty_none, false_one, first_reduced, items_all, list_plain, one_holds, plain_columns, some_operands, under_independent, at_seam, joined_streams, schemas_before}
 use Rattle.std.proofs.lemmas.Bool.{cases_lt}
 
 module _ (F : Functions) (at : ℕ) (input : Stream) where

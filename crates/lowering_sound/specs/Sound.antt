@@ -9,7 +9,7 @@ use Rattle.ps_meaning.specs.Steps.{Named, exprs_of}
 use Rattle.ps_rules.specs.Lowered.{lower_exprs, select_stream}
 use Rattle.ps_rules.specs.Slots.{State, Stream}
 use Rattle.ps_shares.specs.Kept.{IsReady}
-use Rattle.lowering_names.specs.Lawful.{Differ}
+use Rattle.name_rules.specs.Lawful.{Differ}
 
 -- each node from the first new one on is one of a sound shape
 abbrev pub NewAreSound : Functions → (before after : Shape) → Type 0

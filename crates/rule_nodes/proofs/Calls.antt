@@ -14,41 +14,29 @@ use Rattle.ps_meaning.specs.Shape.{Shape}
 use Rattle.ps_meaning.specs.Sound.{IsSoundButForReaders, have_all_kinds}
 use Rattle.ps_meaning.specs.Steps.{Name, Named, exprs_of}
 use Rattle.ps_plan.proofs.Complete.{there}
-use Rattle.ps_rules.specs.Calls.{Answer, Call}
+use Rattle.ps_rules.specs.Calls.{Answer}
 use Rattle.ps_rules.specs.Lowered.{as_operand, lower_exprs, select_stream}
 use Rattle.ps_rules.specs.Names.{IsKnown}
-use Rattle.ps_rules.specs.Rules.{NamedOperand, together}
 use Rattle.ps_rules.specs.Slots.{State, Stream, schema_at, schema_or_none, selected_schema}
 use Rattle.ps_shares.specs.Kept.{IsReady}
-use Rattle.ps_shares.proofs.Adding.{all_add, all_grow, answers_made, calls_add, items_add, selected_made}
+use Rattle.ps_shares.proofs.Adding.{all_add, answers_made, calls_add, items_add, selected_made}
 use Rattle.ps_shares.proofs.Fresh.{Grown}
-use Rattle.ps_shares.proofs.Growing.{grows, grows_finished, grows_selected, grows_together}
 use Rattle.ps_shares.proofs.Stands.{Fresh, stand_for_asked}
 use Rattle.ps_bundles.proofs.Reading.{or_first, or_last}
+use Rattle.name_rules.specs.Lawful.{Differ}
+use Rattle.name_rules.proofs.Items.{each_some}
 use Rattle.lowering_kinds.proofs.Selecting.{items_of, selects_have_fields}
 use Rattle.lowering_kinds.proofs.Staying.{kinds_stay}
-use Rattle.lowering_names.specs.Lawful.{Differ}
-use Rattle.lowering_names.proofs.Calling.{Fine, each_some}
+use Rattle.lowering_names.proofs.Calling.{Fine}
 use Rattle.lowering_sound.proofs.Sounding.{exprs_stay_sound, selects_stay_sound}
+use Rattle.rule_parts.specs.Good.{IsStream, KnowsNames}
+use Rattle.rule_parts.proofs.Standing.{Makes, schema_is, sound_distinct, sound_ordered, stream_below}
+use Rattle.rule_parts.proofs.Growing.{exprs_grow, select_grows}
 use Rattle.rule_nodes.proofs.Shown.{answered_shown}
-use Rattle.rule_nodes.specs.Good.{IsStream, KnowsNames}
-use Rattle.rule_nodes.proofs.Standing.{Makes, schema_is, sound_distinct, sound_ordered, stream_below}
 
 pub all_among : (P : Name → Type 0) (ns : List Name) → ((n : Name) → is_among n ns ≡ true → P n) → AllByRecursion P ns
 all_among P [] h = tt
 all_among P (n ∷ ns) h = (h n (or_first (bytes_eq n n) (is_among n ns) ((bytes_decides n n).1 refl)), all_among P ns (λ m q. h m (or_last (bytes_eq m n) (is_among m ns) q)))
-
--- names only grow
-module _ (at : ℕ) (input : Stream) where
-  pub exprs_grow : (es : List Tree) (s : State) → Grown s.names (lower_exprs at input es s).state.names
-  exprs_grow es s = let os = map (as_operand at input) es in grows_finished at input s.names (together at input os s) (grows_together at input os (all_grow at input es) s)
-
-  items_grow : (es : List Named) → AllByRecursion (λ (i : NamedOperand). (c : Call) → Grown c.state.names (i.1.rule c).state.names) (map (λ (e : Named). (e.0, as_operand at input e.1)) es)
-  items_grow [] = tt
-  items_grow (e ∷ es) = (grows at input e.1, items_grow es)
-
-  pub select_grows : (es : List Named) (s : State) → Grown s.names (select_stream at input es s).state.names
-  select_grows es s = grows_selected at input (map (λ (e : Named). (e.0, as_operand at input e.1)) es) (items_grow es) s
 
 module _ (F : Functions) (at : ℕ) (input : Stream) (s : State) (f : Fields) (fit : IsSoundButForReaders F s.nodes) (from : IsStream s.nodes input f) (knows : KnowsNames s.names f) where
   pub ready : (es : List Tree) → have_all_kinds f es ≡ true → es ≢ [] → IsReady s input es

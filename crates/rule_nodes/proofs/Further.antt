@@ -25,18 +25,18 @@ use Rattle.ps_rules.specs.Lowered.{lower_exprs}
 use Rattle.ps_rules.specs.Rules.{first_tree}
 use Rattle.ps_rules.specs.Slots.{Made, State, Stream, columns_named, over, over_same, schema_at, selected_schema, under, with_columns}
 use Rattle.ps_shares.proofs.Ends.{exprs_under, same_fields, under_own}
-use Rattle.lowering_names.specs.Lawful.{Differ, KeepsRules}
-use Rattle.lowering_names.proofs.Calling.{names_under}
-use Rattle.lowering_names.proofs.Ruling.{field_names, filter_right, select_right, typed_fields}
-use Rattle.lowering_names.proofs.Times.{distinct_once, times}
-use Rattle.lowering_nodes.proofs.Listing.{list_plain}
+use Rattle.name_rules.specs.Lawful.{Differ, KeepsRules}
+use Rattle.name_rules.proofs.Items.{names_under}
+use Rattle.name_rules.proofs.Ruling.{field_names, filter_right, select_right, typed_fields}
+use Rattle.name_rules.proofs.Times.{distinct_once, times}
+use Rattle.name_rules.proofs.Listing.{list_plain}
 use Rattle.plan_rules.specs.Nodes.{expr_or_column, extended_apart, filter_stream}
-use Rattle.rule_nodes.specs.Good.{IsStream, KnowsNames}
+use Rattle.rule_parts.specs.Good.{IsStream, KnowsNames}
+use Rattle.rule_parts.proofs.Columns.{OwnKinds, SameKinds, columns_make, first_kinds, own_found, own_itself, same_own}
+use Rattle.rule_parts.proofs.Picks.{Picked, all_found, any_pick, at_has, has_name_of, picked_fields, picked_others, picked_own, picks_plain, puts_new, some_reads, under_plain}
+use Rattle.rule_parts.proofs.Positions.{AllFollow, answers_follow, columns_first, follow_count}
+use Rattle.rule_parts.proofs.Standing.{Makes, makes_above, makes_then, over_makes, same_makes, sound_distinct, sound_some}
 use Rattle.rule_nodes.proofs.Calls.{Answered, exprs_answered}
-use Rattle.rule_nodes.proofs.Columns.{OwnKinds, SameKinds, columns_make, first_kinds, own_found, own_itself, same_own}
-use Rattle.rule_nodes.proofs.Picks.{Picked, all_found, any_pick, at_has, has_name_of, picked_fields, picked_others, picked_own, picks_plain, puts_new, some_reads, under_plain}
-use Rattle.rule_nodes.proofs.Positions.{AllFollow, answers_follow, columns_first, follow_count}
-use Rattle.rule_nodes.proofs.Standing.{Makes, makes_above, makes_then, over_makes, same_makes, sound_distinct, sound_some}
 
 boolean_is : (o : Option DataType) → is_some o ≡ true → (has_kind_where (is_not kind.Boolean) o ≡ true → ⊥) → o ≡ Some kind.Boolean
 boolean_is None h k = cc

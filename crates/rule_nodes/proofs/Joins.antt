@@ -22,22 +22,22 @@ use Rattle.ps_rules.specs.Lowered.{lower_exprs}
 use Rattle.ps_rules.specs.Names.{IsKnown, Names}
 use Rattle.ps_rules.specs.Slots.{Made, State, Stream, columns_named, schema_at}
 use Rattle.ps_shares.proofs.Members.{to_has}
-use Rattle.lowering_names.specs.Lawful.{KeepsRules}
-use Rattle.lowering_names.proofs.Calling.{kinds_same}
-use Rattle.lowering_names.proofs.Ruling.{breaks_none, lacks_none, obeys}
-use Rattle.lowering_names.proofs.Times.{distinct_once, once_never, times}
-use Rattle.lowering_nodes.proofs.Listing.{list_plain}
+use Rattle.name_rules.specs.Lawful.{KeepsRules}
+use Rattle.name_rules.proofs.Items.{kinds_same}
+use Rattle.name_rules.proofs.Ruling.{breaks_none, lacks_none, obeys}
+use Rattle.name_rules.proofs.Times.{distinct_once, once_never, times}
+use Rattle.name_rules.proofs.Listing.{list_plain}
 use Rattle.plan_rules.specs.Joins.{equi_join_stream, keyed_join, over_both}
 use Rattle.plan_rules.specs.Slices.{cut_stream}
-use Rattle.rule_nodes.specs.Good.{IsGoodStep, IsStream, KnowsNames}
-use Rattle.rule_nodes.proofs.Calls.{exprs_grow}
-use Rattle.rule_nodes.proofs.Columns.{own_itself, same_own}
+use Rattle.rule_parts.specs.Good.{IsGoodStep, IsStream, KnowsNames}
+use Rattle.rule_parts.proofs.Growing.{exprs_grow}
+use Rattle.rule_parts.proofs.Columns.{own_itself, same_own}
+use Rattle.rule_parts.proofs.Merged.{AreWider, merged, merged_contained, merged_once}
+use Rattle.rule_parts.proofs.Passing.{cut_makes, cut_names, good_some}
+use Rattle.rule_parts.proofs.Positions.{AllFollow}
+use Rattle.rule_parts.proofs.Sides.{Carries, IsSide, all_have, carried_bare, drops_left, drops_right, left_is, narrow_in, right_is, same_pairs, side, side_in, side_new, side_old, side_once}
+use Rattle.rule_parts.proofs.Standing.{IsRight, Makes, inserted, makes_above, makes_then, schema_is, sound_distinct, stream_below, stream_later}
 use Rattle.rule_nodes.proofs.Keyed.{Keyed, keys_first}
-use Rattle.rule_nodes.proofs.Merged.{AreWider, merged, merged_contained, merged_once}
-use Rattle.rule_nodes.proofs.Passing.{cut_makes, cut_names, good_some}
-use Rattle.rule_nodes.proofs.Positions.{AllFollow}
-use Rattle.rule_nodes.proofs.Sides.{Carries, IsSide, all_have, carried_bare, drops_left, drops_right, left_is, narrow_in, right_is, same_pairs, side, side_in, side_new, side_old, side_once}
-use Rattle.rule_nodes.proofs.Standing.{IsRight, Makes, inserted, makes_above, makes_then, schema_is, sound_distinct, stream_below, stream_later}
 
 follows_carry : (P : Name → Type 0) (es xs : List Tree) → AllFollow es xs → Carries P es xs
 follows_carry P [] [] h = tt

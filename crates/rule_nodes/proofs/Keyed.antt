@@ -16,13 +16,13 @@ use Rattle.ps_rules.specs.Lowered.{lower_exprs}
 use Rattle.ps_rules.specs.Names.{IsKnown}
 use Rattle.ps_rules.specs.Slots.{State, Stream, columns_named}
 use Rattle.ps_shares.proofs.Stands.{stand_for_asked}
-use Rattle.rule_nodes.specs.Good.{IsStream, KnowsNames}
+use Rattle.rule_parts.specs.Good.{IsStream, KnowsNames}
+use Rattle.rule_parts.proofs.Columns.{OwnKinds, SameKinds, last_kinds, own_itself}
+use Rattle.rule_parts.proofs.Picks.{all_first}
+use Rattle.rule_parts.proofs.Positions.{AllFollow, answers_follow, columns_last, follow_count}
+use Rattle.rule_parts.proofs.Sides.{Carries, carries_first, goes_back}
+use Rattle.rule_parts.proofs.Standing.{sound_distinct, sound_some}
 use Rattle.rule_nodes.proofs.Calls.{Answered, exprs_answered, ready}
-use Rattle.rule_nodes.proofs.Columns.{OwnKinds, SameKinds, last_kinds, own_itself}
-use Rattle.rule_nodes.proofs.Picks.{all_first}
-use Rattle.rule_nodes.proofs.Positions.{AllFollow, answers_follow, columns_last, follow_count}
-use Rattle.rule_nodes.proofs.Sides.{Carries, carries_first, goes_back}
-use Rattle.rule_nodes.proofs.Standing.{sound_distinct, sound_some}
 
 columns_last_read : (es : List Tree) (f : Fields) → f ≢ [] → all_independent (es ++ columns_named (names_of f)) ≡ false
 columns_last_read [] [] some = absurd (some refl)

@@ -25,11 +25,12 @@ use Rattle.ps_shares.proofs.Growing.{finished_names}
 use Rattle.ps_shares.proofs.Stands.{Fresh}
 use Rattle.ps_bundles.proofs.Reading.{among_or}
 use Rattle.ps_bundles.proofs.ZipEnds.{is_some as is_not_empty}
-use Rattle.lowering_names.proofs.Calling.{AllTyped, Fine, Items, fine_later, is_node, items_some, other_stream, schema_is, together_later, together_right}
-use Rattle.lowering_names.proofs.Ruling.{field_names, some_fields, typed_fields}
+use Rattle.name_rules.proofs.Items.{items_some}
+use Rattle.name_rules.proofs.Ruling.{field_names, some_fields, typed_fields}
+use Rattle.name_rules.proofs.Streams.{Held, held_fewer, held_last, made, own, same_is}
+use Rattle.name_rules.proofs.Times.{among_times, times}
+use Rattle.lowering_names.proofs.Calling.{AllTyped, Fine, Items, fine_later, is_node, other_stream, schema_is, together_later, together_right}
 use Rattle.lowering_names.proofs.Stepping.{list_steps}
-use Rattle.lowering_names.proofs.Streams.{Held, held_fewer, held_last, made, own, same_is}
-use Rattle.lowering_names.proofs.Times.{among_times, times}
 
 among_both : (n : Name) (f g : Fields) → is_among n (names_of (f ++ g)) ≡ true → (is_among n (names_of f) ≡ true) ⊎ (is_among n (names_of g) ≡ true)
 among_both n f g h = among_or n (names_of f) (names_of g) (ap (is_among n) (sym (map-append (λ (x : Name × DataType). x.0) f g)) ∙ h)

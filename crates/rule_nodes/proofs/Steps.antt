@@ -1,6 +1,6 @@
 -- Each step: the shape stays sound, and the stream has the step's schema.
 use Rattle.std.proofs.Common.{◌≡◌, ◌≢◌, inl, inr, ℕ, ◌<◌, ◌≤◌, ◌^◌, Bool, true, false, cond, List, [], ◌∷◌, ◌++◌, length, Some, None, refl, sym, ap, subst, ◌∙◌, arith}
-use Rattle.std.specs.Prelude.{◌&&◌, Contains, Option, drop, map, option_map, unwrap_or}
+use Rattle.std.specs.Prelude.{◌&&◌, Option, drop, map, option_map, unwrap_or}
 use Rattle.std.specs.List.{AllByRecursion, list_all}
 use Rattle.std.proofs.lemmas.Bool.{cases_lt}
 use Rattle.std.proofs.lemmas.Option.{same_Some}
@@ -13,92 +13,35 @@ use Rattle.ps_frame.specs.Typing.{is_elementwise}
 use Rattle.ps_frame.specs.declared.expr.What.TheVariants as what
 use Rattle.ps_meaning.specs.Joins.{goes_by_left}
 use Rattle.ps_meaning.specs.Schemas.{fields_of, is_among, named_fields, names_of, put_fields, schema_or_empty}
-use Rattle.ps_meaning.specs.Shape.{PhysicalKind, Shape, filter_node, in_memory_join, in_memory_map, in_memory_sink, in_memory_source, ordered_union, select_node, simple_projection, stream_map, with_row_index, zip_node}
+use Rattle.ps_meaning.specs.Shape.{PhysicalKind, filter_node, in_memory_join, in_memory_map, in_memory_sink, in_memory_source, ordered_union, select_node, simple_projection, stream_map, with_row_index, zip_node}
 use Rattle.ps_meaning.specs.Sound.{BreaksNoRule, HasFitParameters, HasInputs, IsSoundButForReaders}
 use Rattle.ps_meaning.specs.StepRefusals.{Refusal, TypingRefused, column_not_found, duplicate, schema_mismatch, unsupported}
 use Rattle.ps_meaning.specs.Steps.{Cut, DistinctStep, GroupStep, JoinStep, Name, Named, Step, cache, distinct, exprs_of, filter, group_by, hconcat, hstack, join, left_out, memory_sink, project, row_index, scan, select, sink, slice, sort, union, user}
 use Rattle.ps_meaning.specs.declared.options.SinkType.{SinkType}
-use Rattle.ps_meaning.proofs.Containing.{contains-first, contains-later}
 use Rattle.ps_plan.proofs.TypedSteps.{output-distinct}
 use Rattle.ps_rules.specs.Lowered.{lower_exprs, select_stream}
 use Rattle.ps_rules.specs.Rules.{first_tree}
 use Rattle.ps_rules.specs.Names.{Names}
 use Rattle.ps_rules.specs.Slots.{Made, State, Stream, columns_named, over, over_same, projection, schema_at, selected_schema}
 use Rattle.ps_shares.proofs.Growing.{columns_names}
-use Rattle.lowering_names.specs.Lawful.{KeepsRules}
-use Rattle.lowering_names.proofs.Ruling.{field_names, obeys, typed_fields}
-use Rattle.lowering_names.proofs.Times.{distinct_once, once_never}
+use Rattle.name_rules.specs.Lawful.{KeepsRules}
+use Rattle.name_rules.proofs.Ruling.{field_names, obeys, typed_fields}
+use Rattle.name_rules.proofs.Times.{distinct_once, once_never}
 use Rattle.plan_rules.specs.Distinct.{distinct_stream, grouped_distinct, keeps_last, mapped_distinct}
 use Rattle.plan_rules.specs.Joins.{equi_join_stream, join_stream, over_both}
 use Rattle.plan_rules.specs.Nodes.{extended_apart, filter_stream, first_stream, hstack_stream, over_all, scan_stream, second_stream, step_stream, union_stream}
-use Rattle.rule_nodes.specs.Good.{AreStreams, IsGoodStep, IsStream, KnowsNames, StepsStaySound}
+use Rattle.rule_parts.specs.Good.{AreStreams, IsGoodStep, IsStream, KnowsNames}
+use Rattle.rule_parts.proofs.Columns.{columns_make, named_names, own_found, own_itself}
+use Rattle.rule_parts.proofs.Grouped.{GroupsWell}
+use Rattle.rule_parts.proofs.Passing.{cut_makes, good_rules, good_some, good_there, slice_makes}
+use Rattle.rule_parts.proofs.Standing.{IsRight, Makes, inserted, makes_above, makes_none, over_makes, same_makes, stream_below}
+use Rattle.rule_parts.proofs.Inputs.{all_below, all_contained, as_many, one_input, schemas_are, two_inputs}
+use Rattle.rule_nodes.specs.Steps.{StepsStaySound}
 use Rattle.rule_nodes.proofs.Calls.{select_made}
-use Rattle.rule_nodes.proofs.Columns.{columns_make, named_names, own_found, own_itself}
 use Rattle.rule_nodes.proofs.Distincts.{grouped_makes}
 use Rattle.rule_nodes.proofs.Further.{extended_makes, filter_makes}
-use Rattle.rule_nodes.proofs.Groups.{GroupsWell, group_makes}
+use Rattle.rule_nodes.proofs.Groups.{group_makes}
 use Rattle.rule_nodes.proofs.Joins.{equi_makes}
-use Rattle.rule_nodes.proofs.Passing.{cut_makes, good_rules, good_some, good_there, slice_makes}
-use Rattle.rule_nodes.proofs.Standing.{IsRight, Makes, inserted, makes_above, makes_none, over_makes, same_makes, schema_is, stream_below}
-
--- the schemas that streams have
-schemas_are : (nodes : Shape) (is : List Stream) (ss : List Fields) → AreStreams nodes is ss → map (schema_at nodes) is ≡ ss
-schemas_are nodes [] [] h = refl
-schemas_are nodes [] (s ∷ ss) h = absurd h
-schemas_are nodes (i ∷ is) [] h = absurd h
-schemas_are nodes (i ∷ is) (s ∷ ss) h =
-    let p = schema_is nodes i s h.0 in
-    let q = schemas_are nodes is ss h.1 in
-    λ j. p j ∷ q j
-
-all_below : (nodes : Shape) (is : List Stream) (ss : List Fields) → AreStreams nodes is ss → AllByRecursion (λ (i : Stream). i.0 < length nodes) is
-all_below nodes [] [] h = tt
-all_below nodes [] (s ∷ ss) h = absurd h
-all_below nodes (i ∷ is) [] h = absurd h
-all_below nodes (i ∷ is) (s ∷ ss) h = (stream_below nodes i s h.0, all_below nodes is ss h.1)
-
-as_many : (nodes : Shape) (is : List Stream) (ss : List Fields) → AreStreams nodes is ss → length is ≡ length ss
-as_many nodes [] [] h = refl
-as_many nodes [] (s ∷ ss) h = absurd h
-as_many nodes (i ∷ is) [] h = absurd h
-as_many nodes (i ∷ is) (s ∷ ss) h = let r = as_many nodes is ss h.1 in omega arith
-
--- of one input, and of two
-record OneInput (nodes : Shape) (is : List Stream) (ss : List Fields) : Type 0 where
-  is_alone : ss ≡ schema_at nodes (first_stream is) ∷ []
-  stream : IsStream nodes (first_stream is) (schema_at nodes (first_stream is))
-
-own_schema : (nodes : Shape) (i : Stream) (f : Fields) → IsStream nodes i f → IsStream nodes i (schema_at nodes i)
-own_schema nodes i f h = subst (IsStream nodes i) (sym (schema_is nodes i f h)) h
-
-one_input : (nodes : Shape) (is : List Stream) (ss : List Fields) → AreStreams nodes is ss → length ss ≡ 1 → OneInput nodes is ss
-one_input nodes is [] h n = absurd (omega arith)
-one_input nodes is (s ∷ t ∷ ss) h n = absurd (omega arith)
-one_input nodes [] (s ∷ []) h n = absurd h
-one_input nodes (i ∷ is) (s ∷ []) h n = record { is_alone = ap (λ (f : Fields). f ∷ []) (sym (schema_is nodes i s h.0)); stream = own_schema nodes i s h.0 }
-
-record TwoInputs (nodes : Shape) (is : List Stream) (ss : List Fields) : Type 0 where
-  are_both : ss ≡ schema_at nodes (first_stream is) ∷ schema_at nodes (second_stream is) ∷ []
-  left : IsStream nodes (first_stream is) (schema_at nodes (first_stream is))
-  right : IsStream nodes (second_stream is) (schema_at nodes (second_stream is))
-
-two_inputs : (nodes : Shape) (is : List Stream) (ss : List Fields) → AreStreams nodes is ss → length ss ≡ 2 → TwoInputs nodes is ss
-two_inputs nodes is [] h n = absurd (omega arith)
-two_inputs nodes is (s ∷ []) h n = absurd (omega arith)
-two_inputs nodes is (s ∷ t ∷ u ∷ ss) h n = absurd (omega arith)
-two_inputs nodes [] (s ∷ t ∷ []) h n = absurd h
-two_inputs nodes (i ∷ []) (s ∷ t ∷ []) h n = absurd h.1
-two_inputs nodes (i ∷ j ∷ is) (s ∷ t ∷ []) h n =
-    let p = schema_is nodes i s h.0 in
-    let q = schema_is nodes j t h.1.0 in
-    record { are_both = λ k. sym p k ∷ sym q k ∷ []; left = own_schema nodes i s h.0; right = own_schema nodes j t h.1.0 }
-
-all_contained : (f : Fields) → AllByRecursion (Contains f) f
-all_contained f = each f (λ x c. c)
-  where
-    each : (g : Fields) → ((x : _) → Contains g x → Contains f x) → AllByRecursion (Contains f) g
-    each [] inside = tt
-    each (x ∷ g) inside = (inside x (contains-first x g), each g (λ y c. inside y (contains-later x y g c)))
 
 module _ (F : Functions) (at : ℕ) (s : State) (sound : IsSoundButForReaders F s.nodes) where
   -- a node over any number of streams

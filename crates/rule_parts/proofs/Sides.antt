@@ -21,8 +21,8 @@ use Rattle.ps_rules.specs.Names.{IsKnown, Names}
 use Rattle.ps_shares.specs.Leaves.{put_back, stands_for}
 use Rattle.ps_shares.proofs.Members.{Has}
 use Rattle.ps_bundles.proofs.Reading.{or_first, or_last}
-use Rattle.lowering_names.proofs.Times.{times}
-use Rattle.rule_nodes.proofs.Picks.{same_self}
+use Rattle.name_rules.proofs.Times.{times}
+use Rattle.rule_parts.proofs.Picks.{same_self}
 
 -- a side, without the fields of some names where these are left out
 abbrev pub side : Bool → List Name → Fields → Fields

@@ -5,7 +5,7 @@ use Rattle.std.proofs.lemmas.Bool.{cases_lt}
 use Rattle.std.proofs.lemmas.List.{append-nil}
 use Rattle.std.proofs.lemmas.Option.{same_Some, slice_get_within}
 use Rattle.ps_meaning.specs.Shape.{PhysicalNode, Shape}
-use Rattle.lowering_nodes.proofs.Listing.{at_seam}
+use Rattle.name_rules.proofs.Listing.{at_seam}
 
 module _ (IsRight : Shape → PhysicalNode → Type 0) where
   abbrev pub AllRight : Shape → Shape → Type 0

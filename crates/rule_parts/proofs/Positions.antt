@@ -15,8 +15,8 @@ use Rattle.ps_rules.specs.Rules.{aggregated, apart_from_input, filtered_column, 
 use Rattle.ps_rules.specs.Slots.{State, Stream, columns_named, new_name}
 use Rattle.ps_shares.proofs.Growing.{binary_of, cast_of, gathered_exprs, ternary_of}
 use Rattle.ps_bundles.proofs.ZipEnds.{differ}
-use Rattle.lowering_nodes.proofs.Listing.{and_true, columns_read, count_columns, either_false}
-use Rattle.lowering_names.proofs.Calling.{operands_listed}
+use Rattle.name_rules.proofs.Listing.{and_true, columns_read, count_columns, either_false}
+use Rattle.name_rules.proofs.Items.{operands_listed}
 
 -- What an expression is answered by: a column by itself; and what reads the input, or isn't elementwise, by what reads a stream.
 pub record Follows (e x : Tree) : Type 0 where

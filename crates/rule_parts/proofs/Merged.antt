@@ -12,8 +12,8 @@ use Rattle.ps_meaning.specs.Schemas.{is_among, names_of, suffixed}
 use Rattle.ps_meaning.specs.Steps.{Name}
 use Rattle.ps_shares.proofs.Members.{Has, from_has}
 use Rattle.ps_bundles.proofs.Reading.{among_last, or_first, or_last}
-use Rattle.lowering_names.proofs.Times.{among_times, times, times_among, times_append}
-use Rattle.rule_nodes.proofs.Picks.{same_self}
+use Rattle.name_rules.proofs.Times.{among_times, times, times_among, times_append}
+use Rattle.rule_parts.proofs.Picks.{same_self}
 
 -- of names under a function
 from_map : (g : Name → Name) (ns : List Name) (n : Name) → is_among n (map g ns) ≡ true → (m : Name) × (is_among m ns ≡ true) × (n ≡ g m)

@@ -1,29 +1,61 @@
 -- Names only grow while steps are lowered.
-use Rattle.std.proofs.Common.{ℕ, Bool, true, false, cond, List, [], ◌∷◌, ◌++◌, length, drop, take, None, sym, subst}
-use Rattle.std.specs.Prelude.{◌&&◌, unwrap_or}
-use Rattle.std.specs.List.{list_all}
+use Rattle.std.proofs.Common.{ℕ, Bool, true, false, cond, List, [], ◌∷◌, ◌++◌, length, drop, take, None, sym, subst, ◌+◌}
+use Rattle.std.specs.Prelude.{◌&&◌, unwrap_or, map}
+use Rattle.std.specs.List.{list_all, AllByRecursion}
 use Rattle.ps_frame.specs.Functions.{Functions}
 use Rattle.ps_frame.specs.Tables.{Fields}
 use Rattle.ps_frame.specs.Trees.{Tree}
 use Rattle.ps_frame.specs.Typing.{is_elementwise}
 use Rattle.ps_meaning.specs.Joins.{goes_by_left}
-use Rattle.ps_meaning.specs.Schemas.{names_of}
-use Rattle.ps_meaning.specs.Shape.{filter_node, equi_join, in_memory_join, in_memory_source, ordered_union, select_node}
-use Rattle.ps_meaning.specs.Steps.{DistinctStep, JoinStep, Name, Named, Step, cache, distinct, exprs_of, filter, group_by, hconcat, hstack, join, left_out, project, row_index, scan, select, sink, slice, sort, union, user}
-use Rattle.ps_rules.specs.Lowered.{lower_exprs}
+use Rattle.ps_meaning.specs.Schemas.{expr_names, names_of}
+use Rattle.ps_meaning.specs.Shape.{equi_join, filter_node, group_by_node, in_memory_join, in_memory_source, ordered_union, select_node}
+use Rattle.ps_meaning.specs.Steps.{DistinctStep, GroupStep, JoinStep, Name, Named, Step, cache, distinct, exprs_of, filter, group_by, hconcat, hstack, join, left_out, project, row_index, scan, select, sink, slice, sort, union, user}
+use Rattle.ps_rules.specs.Lowered.{as_operand, lower_exprs, select_stream}
 use Rattle.ps_rules.specs.Names.{Names}
-use Rattle.ps_rules.specs.Rules.{first_tree}
-use Rattle.ps_rules.specs.Slots.{Made, State, Stream, after_name, new_name, over, over_same, schema_at, with_columns}
+use Rattle.ps_rules.specs.Rules.{NamedOperand, first_tree, together}
+use Rattle.ps_rules.specs.Slots.{Made, State, Stream, after_name, new_name, over, over_same, over_selected, schema_at, under, with_columns}
+use Rattle.ps_rules.specs.Calls.{Call}
 use Rattle.ps_shares.proofs.Fresh.{Grown, grown_fresh, grown_same, grown_then}
-use Rattle.ps_shares.proofs.Growing.{columns_names}
+use Rattle.ps_shares.proofs.Growing.{columns_names, grows, grows_finished, grows_selected, grows_together}
+use Rattle.ps_shares.proofs.Adding.{all_grow}
 use Rattle.plan_rules.specs.Distinct.{distinct_stream, grouped_distinct, groups_with, keeps_last, keeps_none, kept_groups, kept_values, mapped_distinct, other_than, single_rows}
-use Rattle.plan_rules.specs.Groups.{columns_over, own_columns}
+use Rattle.plan_rules.specs.Groups.{can_stream, columns_over, group_stream, mapped_groups, own_columns, streamed_groups}
 use Rattle.plan_rules.specs.Joins.{equi_join_stream, join_stream, keyed_join, over_both}
 use Rattle.plan_rules.specs.Nodes.{extended_apart, filter_stream, first_stream, hstack_stream, over_all, second_stream, step_stream}
-use Rattle.rule_nodes.proofs.Calls.{exprs_grow, select_grows}
-use Rattle.rule_nodes.proofs.Groups.{group_grows}
-use Rattle.rule_nodes.proofs.Passing.{cut_names}
+use Rattle.plan_rules.specs.Reductions.{split_aggregates}
+use Rattle.rule_parts.specs.Good.{KnownNamesStay}
+use Rattle.rule_parts.proofs.Passing.{cut_names}
+use Rattle.rule_parts.proofs.Reduced.{split_grows}
 
+-- by calls
+module _ (at : ℕ) (input : Stream) where
+  pub exprs_grow : (es : List Tree) (s : State) → Grown s.names (lower_exprs at input es s).state.names
+  exprs_grow es s = let os = map (as_operand at input) es in grows_finished at input s.names (together at input os s) (grows_together at input os (all_grow at input es) s)
+
+  items_grow : (es : List Named) → AllByRecursion (λ (i : NamedOperand). (c : Call) → Grown c.state.names (i.1.rule c).state.names) (map (λ (e : Named). (e.0, as_operand at input e.1)) es)
+  items_grow [] = tt
+  items_grow (e ∷ es) = (grows at input e.1, items_grow es)
+
+  pub select_grows : (es : List Named) (s : State) → Grown s.names (select_stream at input es s).state.names
+  select_grows es s = grows_selected at input (map (λ (e : Named). (e.0, as_operand at input e.1)) es) (items_grow es) s
+
+-- by a group-by
+pub group_grows : (at : ℕ) (o : GroupStep) (input : Stream) (s : State) → Grown s.names (group_stream at o input s).state.names
+group_grows at o input s = by (can_stream o)
+  where
+    by : (b : Bool) → Grown s.names (cond {A = Stream → State → Made} b (streamed_groups at o) (mapped_groups at o) input s).state.names
+    by false = grown_same s.names
+    by true =
+        let a = lower_exprs at input (exprs_of o.keys ++ columns_over input s) s in
+        let split = split_aggregates o.aggregates a.state.names in
+        let keys = under (expr_names o.keys) a.exprs in
+        let g = over_selected at (group_by_node keys split.reductions) (keys ++ split.reductions) a.stream (record { nodes = a.state.nodes; names = split.names }) in
+        let m = select_stream at g.stream (own_columns (expr_names o.keys) ++ split.above) g.state in
+        subst (λ (c : Names). Grown s.names c) (sym (cut_names at o.cut m.stream m.state))
+        (grown_then s.names a.state.names m.state.names (exprs_grow at input (exprs_of o.keys ++ columns_over input s) s)
+        (grown_then a.state.names split.names m.state.names (split_grows o.aggregates (record { names = a.state.names; reductions = []; above = [] })) (select_grows at g.stream (own_columns (expr_names o.keys) ++ split.above) g.state)))
+
+-- by each step
 module _ (at : ℕ) where
   columns_grow : (ns : List Name) (i : Stream) (a : Names) (s : State) → Grown a s.names → Grown a (with_columns at ns i s).state.names
   columns_grow ns i a s g = subst (λ (b : Names). Grown a b) (sym (columns_names at i ns i s)) g
@@ -97,3 +129,6 @@ module _ (at : ℕ) where
   step_grows F (join o) schema inputs s = join_grows o schema (first_stream inputs) (second_stream inputs) s
   step_grows F (distinct o) schema inputs s = distinct_grows o (first_stream inputs) s
   step_grows F (left_out what) schema inputs s = grown_same s.names
+
+pub known_names_stay : KnownNamesStay
+known_names_stay F at step schema inputs s n known = (step_grows at F step schema inputs s).0 n known

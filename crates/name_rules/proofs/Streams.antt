@@ -14,7 +14,7 @@ use Rattle.ps_rules.specs.Slots.{State, Stream, added, all_added, same_stream, s
 use Rattle.ps_shares.proofs.Adding.{Adds, IsNode}
 use Rattle.ps_shares.proofs.FlatLength.{both_hold, neither}
 use Rattle.ps_shares.proofs.Fresh.{Grown}
-use Rattle.lowering_names.proofs.Times.{FreshOnce, fewer_fresh, known_none, none_fresh, then_fresh, times, times_append}
+use Rattle.name_rules.proofs.Times.{FreshOnce, fewer_fresh, known_none, none_fresh, then_fresh, times, times_append}
 
 pub same_is : (a b : Stream) → same_stream a b ≡ true → a ≡ b
 same_is a b h =

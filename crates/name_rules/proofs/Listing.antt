@@ -1,5 +1,5 @@
 -- How many streams there are once some are added, and which of some expressions read the input.
-use Rattle.std.proofs.Common.{◌≡◌, ◌⊎◌, inl, inr, ℕ, suc, ◌+◌, ◌≤◌, Bool, true, false, not, cond, List, [], ◌∷◌, ◌++◌, length, refl, ap, ◌∙◌, sym, arith, length-append, zero, ◌<◌, Some}
+use Rattle.std.proofs.Common.{◌≡◌, ◌⊎◌, inl, inr, ℕ, suc, ◌+◌, ◌≤◌, Bool, true, false, not, cond, List, [], ◌∷◌, ◌++◌, length, refl, ap, ◌∙◌, arith, length-append, zero, ◌<◌, Some}
 use Rattle.std.specs.Prelude.{IsTrue, ◌&&◌, ◌||◌, map, flat_map, slice_get}
 use Rattle.std.specs.List.{AllByRecursion, list_all, list_any}
 use Rattle.std.proofs.lemmas.Bool.{and_from, and_parts}
@@ -8,12 +8,11 @@ use Rattle.ps_frame.specs.Trees.{Tree}
 use Rattle.ps_frame.specs.Typing.{is_elementwise, is_independent}
 use Rattle.ps_meaning.specs.Sound.{IsReduced, schema_at as schema_of}
 use Rattle.ps_meaning.specs.Steps.{Name, Named, exprs_of}
-use Rattle.ps_rules.specs.Calls.{Operand, all_independent, exprs_of_all}
-use Rattle.ps_rules.specs.Rules.{NamedOperand, first_tree, names_of_items, operands_of}
-use Rattle.ps_rules.specs.Slots.{State, Stream, added, after_name, all_added, columns_named, new_names, same_stream, under, schema_at, schema_or_none}
-use Rattle.ps_bundles.proofs.ZipEnds.{differ}
 use Rattle.ps_meaning.specs.Schemas.{joined_schemas}
 use Rattle.ps_meaning.specs.Shape.{PhysicalNode, Shape}
+use Rattle.ps_rules.specs.Calls.{Operand, all_independent, exprs_of_all}
+use Rattle.ps_rules.specs.Rules.{NamedOperand, first_tree, names_of_items, operands_of}
+use Rattle.ps_rules.specs.Slots.{State, Stream, added, after_name, all_added, columns_named, new_names, same_stream, schema_at, schema_or_none, under}
 
 -- streams
 pub added_some : (i : Stream) (ss : List Stream) → 1 ≤ length (added i ss)
@@ -47,7 +46,7 @@ all_added_some (x ∷ xs) ss m n k h =
 
 pub empty_none : {A : Type 0} (xs : List A) → is_empty xs ≡ true → length xs ≡ 0
 empty_none [] q = refl
-empty_none (x ∷ xs) q = absurd (differ (sym q))
+empty_none (x ∷ xs) q = let w : false ≡ true = q in cc
 
 -- of two, and of many
 pub and_true : (b : Bool) → (b && true) ≡ b
@@ -75,7 +74,7 @@ any_step false b c q f = refl
 any_step true b c q f = f q
 
 pub any_reads : (es : List Tree) → all_independent es ≡ false → list_any (λ e. not (is_independent e)) es ≡ true
-any_reads [] q = absurd (differ q)
+any_reads [] q = let w : true ≡ false = q in cc
 any_reads (e ∷ es) q = any_step (is_independent e) (all_independent es) (list_any (λ e. not (is_independent e)) es) q (any_reads es)
 
 pub list_plain : (es : List Tree) → AllByRecursion (λ e. IsTrue (is_elementwise e)) es → list_all is_elementwise es ≡ true
@@ -94,7 +93,7 @@ items_all P [] all = tt
 items_all P (m ∷ items) all = (all.0, items_all P items all.1)
 
 pub some_operands : (os : List Operand) → all_independent (exprs_of_all os) ≡ false → 1 ≤ length os
-some_operands [] q = absurd (differ q)
+some_operands [] q = let w : true ≡ false = q in cc
 some_operands (o ∷ os) q = omega arith
 
 pub count_items : (items : List NamedOperand) → length (names_of_items items) ≡ length (operands_of items)
@@ -116,7 +115,7 @@ columns_read (o ∷ os) s some = refl
 
 -- what a reduction takes
 reads_one : (b : Bool) → (b && true) ≡ false → not b ≡ true
-reads_one true q = absurd (differ q)
+reads_one true q = let w : true ≡ false = q in cc
 reads_one false q = refl
 
 pub first_reduced : (bs : List Tree) → length bs ≡ 1 → AllByRecursion (λ e. IsTrue (is_elementwise e)) bs → all_independent bs ≡ false → IsReduced (first_tree bs)

@@ -15,6 +15,7 @@ use Rattle.ps_frame.specs.Typing.{kind_over}
 use Rattle.ps_frame.specs.declared.expr.What.TheVariants as what
 use Rattle.ps_frame.specs.declared.value.DataType.{DataType}
 use Rattle.ps_frame.specs.declared.value.DataType.TheVariants as kind
+use Rattle.ps_typing.proofs.Exact.{any-weaker, breaks-refused, none-refused, unknown-refused}
 use Rattle.ps_meaning.specs.Schemas.{both as both_of, expr_names, fields_of, first_schema, is_among, joined_schemas, named_fields, names_of, output_schema}
 use Rattle.ps_meaning.specs.Shape.{filter_node, in_memory_map, independent_select, reduce, select_node, simple_projection, zip_node}
 use Rattle.ps_meaning.specs.Sound.{BreaksNoRule, have_all_kinds}
@@ -23,9 +24,8 @@ use Rattle.ps_meaning.specs.Steps.{Name, Named, SortStep, Step, exprs_of, filter
 use Rattle.ps_rules.specs.Slots.{selected_schema}
 use Rattle.ps_shares.proofs.FlatLength.{both_hold}
 use Rattle.ps_shares.proofs.Projected.{named_as}
-use Rattle.ps_typing.proofs.Exact.{any-weaker, breaks-refused, none-refused, unknown-refused}
-use Rattle.lowering_names.specs.Lawful.{KeepsRules}
-use Rattle.lowering_names.proofs.Times.{once_never, times}
+use Rattle.name_rules.specs.Lawful.{FiltersKeepRules, KeepsRules}
+use Rattle.name_rules.proofs.Times.{distinct_once, once_never, times}
 
 never : true ≡ false → ⊥
 never e = cc
@@ -271,3 +271,6 @@ module _ (F : Functions) where
               literal = λ k. k;
             });
       }
+
+pub filters_keep_rules : FiltersKeepRules
+filters_keep_rules F e s some differ boolean = filter_right F e s some (distinct_once s differ) boolean

@@ -13,6 +13,7 @@ use Rattle.ps_frame.specs.declared.expr.FunctionExpr.TheVariants as fun
 use Rattle.ps_frame.specs.declared.expr.Operator.{Operator}
 use Rattle.ps_frame.specs.declared.value.DataType.{DataType}
 use Rattle.ps_frame.specs.declared.value.DataType.TheVariants as kind
+use Rattle.ps_typing.proofs.Parts.{of-cast, of-condition, of-falsy, of-function, of-left, of-right, of-truthy, own-part}
 use Rattle.ps_meaning.specs.Schemas.{expr_names}
 use Rattle.ps_meaning.specs.Sound.{IsReduction, have_all_kinds}
 use Rattle.ps_meaning.specs.Steps.{Name, Named, exprs_of}
@@ -20,11 +21,10 @@ use Rattle.ps_plan.proofs.Complete.{all-both}
 use Rattle.ps_rules.specs.Names.{Names, fresh_name}
 use Rattle.ps_shares.proofs.Fresh.{Grown, grown_fresh, grown_same, grown_then}
 use Rattle.ps_bundles.proofs.Reading.{or_last}
-use Rattle.ps_typing.proofs.Parts.{of-cast, of-condition, of-falsy, of-function, of-left, of-right, of-truthy, own-part}
-use Rattle.lowering_names.proofs.Calling.{times_items}
-use Rattle.lowering_names.proofs.Times.{FreshOnce, fewer_fresh, none_fresh, one_fresh, then_fresh, times}
+use Rattle.name_rules.proofs.Items.{times_items}
+use Rattle.name_rules.proofs.Times.{FreshOnce, fewer_fresh, none_fresh, one_fresh, then_fresh, times}
 use Rattle.plan_rules.specs.Reductions.{Apart, Split, aggregate_apart, is_made_of_reductions, is_mergeable, taken_apart, under_fresh_name, with_aggregate}
-use Rattle.rule_nodes.proofs.Picks.{all_first, all_last}
+use Rattle.rule_parts.proofs.Picks.{all_first, all_last}
 
 -- operands of what has a kind
 binary_some : (o : Operator) (a b : Option DataType) → is_some (binary_kind o a b) ≡ true → (is_some a ≡ true) × (is_some b ≡ true)

@@ -19,10 +19,10 @@ use Rattle.ps_shares.specs.Kept.{IsOrdered}
 use Rattle.ps_shares.proofs.Ends.{kept_there, last_there}
 use Rattle.ps_shares.proofs.Fresh.{Grown, grown_same, grown_then}
 use Rattle.ps_shares.proofs.Members.{Has, to_has}
-use Rattle.lowering_nodes.proofs.Listing.{schemas_before}
-use Rattle.lowering_names.specs.Lawful.{KeepsRules}
-use Rattle.lowering_sound.proofs.Sounding.{fit_later, was_there}
-use Rattle.rule_nodes.specs.Good.{IsStream}
+use Rattle.name_rules.proofs.Listing.{schemas_before}
+use Rattle.name_rules.specs.Lawful.{KeepsRules}
+use Rattle.name_rules.proofs.Later.{fit_later, was_there}
+use Rattle.rule_parts.specs.Good.{IsStream}
 
 pub schema_is : (nodes : Shape) (i : Stream) (f : Fields) → IsStream nodes i f → schema_at nodes i ≡ f
 schema_is nodes i f h = ap schema_or_none h.there ∙ h.schema

@@ -18,9 +18,9 @@ use Rattle.ps_shares.proofs.Members.{Has}
 use Rattle.ps_shares.proofs.Projected.{named_as}
 use Rattle.ps_bundles.proofs.Reading.{or_first, or_last}
 use Rattle.ps_bundles.proofs.ZipEnds.{differ}
-use Rattle.lowering_names.specs.Lawful.{Differ}
+use Rattle.name_rules.specs.Lawful.{Differ}
 use Rattle.plan_rules.specs.Nodes.{expr_or_column}
-use Rattle.rule_nodes.proofs.Positions.{AllFollow}
+use Rattle.rule_parts.proofs.Positions.{AllFollow}
 
 pub same_self : (n : Name) → bytes_eq n n ≡ true
 same_self n = (bytes_decides n n).1 refl

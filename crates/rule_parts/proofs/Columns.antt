@@ -15,12 +15,11 @@ use Rattle.ps_meaning.specs.Sound.{IsSoundButForReaders}
 use Rattle.ps_meaning.specs.Steps.{Name}
 use Rattle.ps_rules.specs.Slots.{Made, State, Stream, columns_named, over, projection, same_names, schema_at, with_columns}
 use Rattle.ps_bundles.proofs.Reading.{kinds_own}
-use Rattle.lowering_kinds.proofs.Selecting.{same_is}
-use Rattle.lowering_names.proofs.Keeping.{each_among, found_among}
-use Rattle.lowering_names.proofs.Ruling.{project_right}
-use Rattle.lowering_names.proofs.Times.{distinct_once}
-use Rattle.rule_nodes.specs.Good.{IsStream}
-use Rattle.rule_nodes.proofs.Standing.{Makes, makes_none, other_out, over_makes, schema_is, sound_distinct}
+use Rattle.name_rules.proofs.Items.{each_among, found_among, same_is}
+use Rattle.name_rules.proofs.Ruling.{project_right}
+use Rattle.name_rules.proofs.Times.{distinct_once}
+use Rattle.rule_parts.specs.Good.{IsStream}
+use Rattle.rule_parts.proofs.Standing.{Makes, makes_none, other_out, over_makes, schema_is, sound_distinct}
 
 -- each field has its own kind in a schema
 abbrev pub OwnKinds : Fields → Fields → Type 0

@@ -1,14 +1,12 @@
--- When the nodes of a step stay those of a sound shape: the step is one that no rule refuses, over streams of a sound shape.
-use Rattle.std.specs.Prelude.{◌≡◌, ℕ, ◌≤◌, ◌^◌, List, [], ◌∷◌, length, Some, slice_get, IsTrue, ⊤}
-use Rattle.std.specs.List.{AllByRecursion}
+-- A step that no rule refuses, over streams of these schemas, where the names of these are known.
+use Rattle.std.specs.Prelude.{◌≡◌, ℕ, ◌≤◌, List, [], ◌∷◌, length, Some, slice_get, IsTrue, ⊤}
 use Rattle.ps_frame.specs.Frames.{has_distinct_names}
 use Rattle.ps_frame.specs.Functions.{Functions}
 use Rattle.ps_frame.specs.Lawful.{FitsFrame}
 use Rattle.ps_frame.specs.Tables.{Fields}
 use Rattle.ps_meaning.specs.Laws.{IsTypedStep}
-use Rattle.ps_meaning.specs.Schemas.{is_among, names_of, schema_or_empty}
+use Rattle.ps_meaning.specs.Schemas.{is_among, names_of}
 use Rattle.ps_meaning.specs.Shape.{PhysicalNode, Shape}
-use Rattle.ps_meaning.specs.Sound.{IsSoundButForReaders}
 use Rattle.ps_meaning.specs.StepRefusals.{HasBadKeys, HasNoKey, IsValidated, NamesMissingFunction}
 use Rattle.ps_meaning.specs.Steps.{Name, Step, hconcat, join, left_out, scan, union}
 use Rattle.ps_rules.specs.Names.{IsKnown, Names}
@@ -55,10 +53,6 @@ AreStreams nodes _ _ = ⊥
 abbrev pub KnowsNames : Names → Fields → Type 0
 KnowsNames names f = (n : Name) → IsTrue (is_among n (names_of f)) → IsKnown names n
 
--- The shape stays sound but for readers, and the stream has the step's schema. The counter of names stays in 64 bits: past that two numbers may have one name.
-abbrev pub StepsStaySound : Type 0
-StepsStaySound =
-    (F : Functions) (at : ℕ) (step : Step) (ss : List Fields) (inputs : List Stream) (s : State) → IsGoodStep F step ss → IsSoundButForReaders F s.nodes → AreStreams s.nodes inputs ss
-    → AllByRecursion (KnowsNames s.names) (schema_or_empty F step ss ∷ ss)
-    → let m = step_stream at F step (schema_or_empty F step ss) inputs s in
-    m.state.names.next ≤ 2 ^ 64 → IsSoundButForReaders F m.state.nodes × IsStream m.state.nodes m.stream (schema_or_empty F step ss)
+-- a name that is known stays known while the rules lower a step
+abbrev pub KnownNamesStay : Type 0
+KnownNamesStay = (F : Functions) (at : ℕ) (step : Step) (schema : Fields) (inputs : List Stream) (s : State) (n : Name) → IsKnown s.names n → IsKnown (step_stream at F step schema inputs s).state.names n

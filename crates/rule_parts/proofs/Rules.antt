@@ -10,15 +10,15 @@ use Rattle.ps_frame.specs.Parts.{is_column_of, reads_column}
 use Rattle.ps_frame.specs.Tables.{Fields, field_kind}
 use Rattle.ps_frame.specs.Trees.{Tree}
 use Rattle.ps_frame.specs.Typing.{kind_over}
+use Rattle.ps_typing.proofs.Exact.{unknown-refused}
 use Rattle.ps_meaning.specs.Schemas.{is_among, names_of}
 use Rattle.ps_meaning.specs.Sound.{have_all_kinds}
 use Rattle.ps_meaning.specs.Steps.{Name}
 use Rattle.ps_shares.proofs.FlatLength.{both_hold}
 use Rattle.ps_shares.proofs.Projected.{named_as}
-use Rattle.ps_typing.proofs.Exact.{unknown-refused}
-use Rattle.lowering_names.proofs.Keeping.{kind_same}
-use Rattle.lowering_names.proofs.Ruling.{none_such}
-use Rattle.rule_nodes.proofs.Columns.{SameKinds}
+use Rattle.name_rules.proofs.Items.{kind_same}
+use Rattle.name_rules.proofs.Ruling.{none_such}
+use Rattle.rule_parts.proofs.Columns.{SameKinds}
 
 module _ (s : Fields) where
   -- each column that is read stands in the schema

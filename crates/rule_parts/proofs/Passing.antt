@@ -18,11 +18,11 @@ use Rattle.ps_meaning.specs.Steps.{Cut, Name, Named, Step, cache, distinct, expr
 use Rattle.ps_rules.specs.Slots.{State, Stream}
 use Rattle.ps_shares.proofs.Projected.{named_as}
 use Rattle.ps_bundles.proofs.Reading.{has_fields, or_first, or_last}
-use Rattle.lowering_names.proofs.Ruling.{typed_fields}
-use Rattle.lowering_names.proofs.Times.{distinct_once, once_never}
+use Rattle.name_rules.proofs.Ruling.{typed_fields}
+use Rattle.name_rules.proofs.Times.{distinct_once, once_never}
 use Rattle.plan_rules.specs.Slices.{cut_stream, slice_stream}
-use Rattle.rule_nodes.specs.Good.{IsGoodStep, IsStream}
-use Rattle.rule_nodes.proofs.Standing.{Makes, makes_none, same_makes, sound_distinct, sound_some}
+use Rattle.rule_parts.specs.Good.{IsGoodStep, IsStream}
+use Rattle.rule_parts.proofs.Standing.{Makes, makes_none, same_makes, sound_distinct, sound_some}
 
 is_there : (o : Option Fields) → is_some o ≡ true → o ≡ Some (unwrap_or o [])
 is_there None h = cc

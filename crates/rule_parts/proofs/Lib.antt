@@ -1,0 +1,13 @@
+pub mod Standing
+pub mod Positions
+pub mod Passing
+pub mod Columns
+pub mod Rules
+pub mod Picks
+pub mod Sides
+pub mod Reduced
+pub mod Merged
+pub mod Growing
+pub mod Grouped
+pub mod Kept
+pub mod Inputs
