@@ -45,14 +45,14 @@ use Rattle.step_keeps.specs.Kept.{EndsAsStep, IsKeptStep, KeepsStep, ShowsOnlySt
 use Rattle.step_keeps.proofs.Added.{restricted}
 use Rattle.step_keeps.proofs.One.{last_there, plain_means}
 use Rattle.picked_zips.proofs.Members.{has_place}
-use Rattle.picked_zips.specs.Picked.{ZipsAlike, columns_in}
+use Rattle.picked_zips.specs.Picked.{columns_in}
 use Rattle.keyed_calls.specs.Keyed.{IsLargeBy, KeyedAlike, row_by}
 use Rattle.keyed_calls.proofs.Alike.{of_named, same_empty}
 use Rattle.keyed_calls.proofs.Asked.{IsOf, Makes, case_of, makes, own_schema, shown}
 use Rattle.keyed_calls.proofs.Calls.{alike_behind, keys_behind, shows_behind}
 use Rattle.keyed_calls.proofs.Told.{Adds, Tells, adds_node, one_fed, tells_step, tells_then}
 use Rattle.column_keeps.proofs.Entries.{Entry, at_or, entries, expr_is, index_of, next, own_index, put_has, put_keeps}
-use Rattle.column_keeps.proofs.Places.{IsOut, columns_alike, cs, later, out_columns, out_values, place, places_are}
+use Rattle.column_keeps.proofs.Places.{IsOut, OutsStandForAll, beside_kept, columns_alike, cs, later, out_columns, out_values, place, places_are}
 
 -- what a table of an hstack is
 module _ (F : Functions) (at : ℕ) (es : List Named) (t : Table) (fs : Fields) (is : out_schema F at (hstack es) (t ∷ []) ≡ fs) where
@@ -147,9 +147,24 @@ out_fields es s f xs (x ∷ fs) all kinds count same =
         ∙ same x.0 (ap is_some own)
         ∙ own
 
+-- the expression at each place has its own output name
+pub each_out : (es : List Named) (s gs : Fields) → fields_of es s ≡ Some gs → has_distinct_names gs ≡ true → (m : ℕ) → m < length es → (n : Name) × Has (names_of (put_fields s gs)) n × (index_of n es ≡ Some m)
+each_out es s gs fields apart m lt =
+    let n = (get_or es m ([], Tree.missing)).0 in
+    let in_gs : has_name n gs ≡ true = named_has n gs (subst (λ (ns : List Name). Has ns n) (sym (fields_are es s gs fields)) (name_there es m lt)) in
+    (n, has_named n (put_fields s gs) (put_has n gs s in_gs), own_index es gs s fields apart m lt)
+  where
+    name_there : (es : List Named) (m : ℕ) → m < length es → Has (expr_names es) (get_or es m ([], Tree.missing)).0
+    name_there [] m lt = absurd (omega arith)
+    name_there (e ∷ es) zero lt = inl refl
+    name_there (e ∷ es) (suc m) lt = inr (name_there es m (omega arith))
+
+pub all_outs : (es : List Named) (s gs : Fields) → fields_of es s ≡ Some gs → has_distinct_names s ≡ true → has_distinct_names gs ≡ true → AllByRecursion (IsOut es s) (names_of (put_fields s gs))
+all_outs es s gs fields distinct apart = all_out es s (put_fields s gs) (entries es s gs fields distinct apart)
+
 -- Expressions that are alike behind two tables, and what a select gives of the one.
 module _ (F : Functions) (at : ℕ) (es : List Named) (xs : List Tree) (gs : Fields) (t z' : Table) (alike : KeyedAlike at (names_of t.schema) (exprs_of es) xs t z') (fields : fields_of es t.schema ≡ Some gs) (distinct : has_distinct_names t.schema ≡ true) (apart : has_distinct_names gs ≡ true)
-    (other : Name) (other_own : HasKind t.schema other) (other_free : index_of other es ≡ None) (count : length xs ≡ length es) where
+    (count : length xs ≡ length es) (zips : OutsStandForAll at es gs xs t z') where
   abbrev fs : Fields
   fs = put_fields t.schema gs
 
@@ -162,34 +177,14 @@ module _ (F : Functions) (at : ℕ) (es : List Named) (xs : List Tree) (gs : Fie
   same : (n : Name) → HasKind t.schema n → field_kind n z'.schema ≡ field_kind n t.schema
   same n h = of_named (λ n. field_kind n z'.schema ≡ field_kind n t.schema) t.schema n h alike.same_kinds
 
-  every : AllByRecursion (Entry es t.schema) fs
-  every = entries es t.schema gs fields distinct apart
-
   all : AllByRecursion (IsOut es t.schema) out
-  all = all_out es t.schema fs every
-
-  each : (m : ℕ) → m < length es → (n : Name) × Has out n × (index_of n es ≡ Some m)
-  each m lt =
-      let n = (get_or es m ([], Tree.missing)).0 in
-      let in_gs : has_name n gs ≡ true = named_has n gs (subst (λ (ns : List Name). Has ns n) (sym (fields_are es t.schema gs fields)) (name_there es m lt)) in
-      (n, has_named n fs (put_has n gs t.schema in_gs), own_index es gs t.schema fields apart m lt)
-    where
-      name_there : (es : List Named) (m : ℕ) → m < length es → Has (expr_names es) (get_or es m ([], Tree.missing)).0
-      name_there [] m lt = absurd (omega arith)
-      name_there (e ∷ es) zero lt = inl refl
-      name_there (e ∷ es) (suc m) lt = inr (name_there es m (omega arith))
-
-  among : Has out other
-  among = has_named other fs (put_keeps other gs t.schema (sym (kind_as other t.schema) ∙ other_own))
+  all = all_outs es t.schema gs fields distinct apart
 
   abbrev a : Zipped
   a = keyed at xs z'
 
   abbrev b : Zipped
   b = keyed at (exprs_of es) t
-
-  zips : ZipsAlike at (cs es t.schema z'.schema xs count same at z' refl) (map (place es t.schema z'.schema xs count same) out)
-  zips = columns_alike es t.schema z'.schema xs count same at z' refl out all each other among other_free other_own
 
   selected_columns : columns_in (cs es t.schema z'.schema xs count same at z' refl) (map (place es t.schema z'.schema xs count same) out) ≡ columns_at at (exprs_of selectors) z'
   selected_columns =
@@ -303,7 +298,8 @@ module _ (F : Functions) (at : ℕ) (es : List Named) (xs : List Tree) (gs : Fie
   same_sizes (inr (inr l)) = absurd l
 
 module _ (F : Functions) (at : ℕ) (s : State) (i : Stream) (es : List Named) (gs : Fields) (cells : list_all is_elementwise (exprs_of es) ≡ false) (some : schema_at s.nodes i ≢ []) (fields : fields_of es (schema_at s.nodes i) ≡ Some gs) (apart : has_distinct_names gs ≡ true)
-    (other : Name) (other_own : HasKind (schema_at s.nodes i) other) (other_free : index_of other es ≡ None) (ready : IsReady s i (columns_over i s ++ exprs_of es)) (low : (lower_exprs at i (columns_over i s ++ exprs_of es) s).state.names.next ≤ 2 ^ 64) where
+    (ready : IsReady s i (columns_over i s ++ exprs_of es)) (low : (lower_exprs at i (columns_over i s ++ exprs_of es) s).state.names.next ≤ 2 ^ 64)
+    (full : let xs = drop (length (columns_over i s)) (lower_exprs at i (columns_over i s ++ exprs_of es) s).exprs in (t z : Table) → t.schema ≡ schema_at s.nodes i → KeyedAlike at (names_of t.schema) (exprs_of es) xs t z → has_distinct_names t.schema ≡ true → OutsStandForAll at es gs xs t z) where
   abbrev asked : List Tree
   asked = columns_over i s ++ exprs_of es
 
@@ -370,8 +366,8 @@ module _ (F : Functions) (at : ℕ) (s : State) (i : Stream) (es : List Named) (
     fields_T : fields_of es T.schema ≡ Some gs
     fields_T = ap (fields_of es) (sym own) ∙ fields
 
-    other_T : HasKind T.schema other
-    other_T = ap (λ (f : Fields). is_some (field_kind other f)) (sym own) ∙ other_own
+    outs : OutsStandForAll at es gs ys T Z
+    outs = full T Z (sym own) alike distinct
 
     out_T : out_schema F at (hstack es) (T ∷ []) ≡ put_fields T.schema gs
     out_T = ap (λ o. unwrap_or (option_map (put_fields T.schema) o) []) fields_T
@@ -380,7 +376,7 @@ module _ (F : Functions) (at : ℕ) (s : State) (i : Stream) (es : List Named) (
     same_schema = ap (λ (f : Fields). put_fields f gs) own
 
     abbrev news : List Named
-    news = selectors F at es ys gs T Z alike fields_T distinct apart other other_T other_free many
+    news = selectors F at es ys gs T Z alike fields_T distinct apart many outs
 
     same_exprs : chosen_exprs ≡ news
     same_exprs = ap (λ (f : Fields). under (names_of f) (map (expr_or_column (under (expr_names es) ys)) (names_of f))) same_schema
@@ -407,8 +403,8 @@ module _ (F : Functions) (at : ℕ) (s : State) (i : Stream) (es : List Named) (
         select_schema : Case F at (select news) (Z ∷ []) L → L.schema ≡ out_schema F at (select news) (Z ∷ [])
         select_schema (U, g, e) = ap (λ (T : Table). T.schema) e ∙ before_schema U g
 
-    k : Extended F at es ys gs T Z alike fields_T distinct apart other other_T other_free many L
-    k = extended F at es ys gs T Z alike fields_T distinct apart other other_T other_free many out_T L is_of
+    k : Extended F at es ys gs T Z alike fields_T distinct apart many outs L
+    k = extended F at es ys gs T Z alike fields_T distinct apart many outs out_T L is_of
 
     abbrev Bad : Cause → Type 0
     Bad c = IsCaseBrokenBy F at (hstack es) (T ∷ []) c
@@ -421,14 +417,14 @@ module _ (F : Functions) (at : ℕ) (s : State) (i : Stream) (es : List Named) (
         let h = shows_behind F at i s (exprs_of es) some ready low tables chosen_first rows in
         record {
           causes = λ n U c le lt may has. breaks F at es T (put_fields T.schema gs) out_T c (h.causes n U c le lt may has);
-          sizes = λ n le lt large. to_large F at es ys gs T Z alike fields_T distinct apart other other_T other_free many (h.sizes n le lt large);
+          sizes = λ n le lt large. to_large F at es ys gs T Z alike fields_T distinct apart many outs (h.sizes n le lt large);
         }
 
     bad : (c : Cause) → IsCaseBrokenBy F at (select chosen_exprs) (Z ∷ []) c → Bad c
-    bad c h = same_causes F at es ys gs T Z alike fields_T distinct apart other other_T other_free many out_T c (subst (λ (ns : List Named). IsCaseBrokenBy F at (select ns) (Z ∷ []) c) same_exprs h)
+    bad c h = same_causes F at es ys gs T Z alike fields_T distinct apart many outs out_T c (subst (λ (ns : List Named). IsCaseBrokenBy F at (select ns) (Z ∷ []) c) same_exprs h)
 
     large : IsLargeCase F at (select chosen_exprs) (Z ∷ []) ⊎ SomeIsLarge (Z ∷ []) → Large'
-    large h = same_sizes F at es ys gs T Z alike fields_T distinct apart other other_T other_free many (subst (λ (ns : List Named). IsLargeCase F at (select ns) (Z ∷ []) ⊎ SomeIsLarge (Z ∷ [])) same_exprs h)
+    large h = same_sizes F at es ys gs T Z alike fields_T distinct apart many outs (subst (λ (ns : List Named). IsLargeCase F at (select ns) (Z ∷ []) ⊎ SomeIsLarge (Z ∷ [])) same_exprs h)
 
     means : EndsAsStep F at (hstack es) (T ∷ []) S × ShowsOnlyStep F s.nodes m.state.nodes tables at (hstack es) (T ∷ [])
     means =
@@ -452,7 +448,7 @@ module _ (F : Functions) (at : ℕ) (s : State) (i : Stream) (es : List Named) (
         meaning = λ tables chosen rows. means tables chosen rows.0;
       }
 
-  columns_keep : IsKeptStep F at (hstack es) schema (i ∷ []) s
+  pub columns_keep : IsKeptStep F at (hstack es) schema (i ∷ []) s
   columns_keep = subst (λ (m : Made). KeepsStep F at (hstack es) s m.state (i ∷ []) m.stream) (sym made_is) made_keeps
 
 -- a name that no expression has
@@ -462,7 +458,22 @@ no_index n (e ∷ es) h =
     let parts = or-parts (bytes_eq n e.0) (is_among n (expr_names es)) h in
     ap (λ b. if b then Some 0 else next (index_of n es)) parts.0 ∙ ap next (no_index n es parts.1)
 
+-- where some column stays, its own and the expressions stand for all
+stays_stand : (at : ℕ) (es : List Named) (xs : List Tree) (gs : Fields) (t z : Table) → KeyedAlike at (names_of t.schema) (exprs_of es) xs t z → fields_of es t.schema ≡ Some gs → has_distinct_names t.schema ≡ true → has_distinct_names gs ≡ true → length xs ≡ length es → (other : Name)
+    → HasKind t.schema other → index_of other es ≡ None → OutsStandForAll at es gs xs t z
+stays_stand at es xs gs t z alike fields distinct apart count other own free =
+    let out = names_of (put_fields t.schema gs) in
+    let same : (n : Name) → HasKind t.schema n → field_kind n z.schema ≡ field_kind n t.schema = λ n h. of_named (λ n. field_kind n z.schema ≡ field_kind n t.schema) t.schema n h alike.same_kinds in
+    let all = all_outs es t.schema gs fields distinct apart in
+    let among : Has out other = has_named other (put_fields t.schema gs) (put_keeps other gs t.schema (sym (kind_as other t.schema) ∙ own)) in
+    columns_alike es t.schema z.schema xs count same at z refl out all (each_out es t.schema gs fields apart) (beside_kept es t.schema z.schema xs count same at z refl out all other among free own)
+
 pub further_columns_keep : (F : Functions) (at : ℕ) (s : State) (i : Stream) (es : List Named) (gs : Fields) (name : Name) → list_all is_elementwise (exprs_of es) ≡ false → schema_at s.nodes i ≢ [] → fields_of es (schema_at s.nodes i) ≡ Some gs → has_distinct_names gs ≡ true
     → is_among name (names_of (schema_at s.nodes i)) ≡ true → is_among name (expr_names es) ≡ false → let asked = columns_over i s ++ exprs_of es in IsReady s i asked → (lower_exprs at i asked s).state.names.next ≤ 2 ^ 64 → IsKeptStep F at (hstack es) (put_fields (schema_at s.nodes i) gs) (i ∷ []) s
 further_columns_keep F at s i es gs name cells some fields apart among free ready low =
-    columns_keep F at s i es gs cells some fields apart name (kind_as name (schema_at s.nodes i) ∙ sym (named_as name (schema_at s.nodes i)) ∙ among) (no_index name es free) ready low
+    let k = keys_behind F at i s (exprs_of es) some ready in
+    let answered : k.0 ≡ drop (length (columns_over i s)) (lower_exprs at i (columns_over i s ++ exprs_of es) s).exprs = sym (ap (drop (length (columns_over i s))) k.1 ∙ drop-append_seam (columns_over i s) k.0) in
+    let many = sym (ap length answered) ∙ k.2 ∙ length-map es (λ (e : Named). e.1) in
+    let own = kind_as name (schema_at s.nodes i) ∙ sym (named_as name (schema_at s.nodes i)) ∙ among in
+    columns_keep F at s i es gs cells some fields apart ready low
+    (λ t z is alike distinct. stays_stand at es (drop (length (columns_over i s)) (lower_exprs at i (columns_over i s ++ exprs_of es) s).exprs) gs t z alike (ap (fields_of es) is ∙ fields) distinct apart many name (ap (λ (f : Fields). is_some (field_kind name f)) is ∙ own) (no_index name es free))

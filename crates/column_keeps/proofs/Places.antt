@@ -7,7 +7,7 @@ use Rattle.std.specs.Cmp.Lexicographic.{bytes_decides}
 use Rattle.std.proofs.Math.ListN.{get_or-append}
 use Rattle.std.proofs.lemmas.List.{get_or-append-add, get_or-map, length-map}
 use Rattle.std.proofs.lemmas.List.Quantifiers.{position-Some}
-use Rattle.ps_frame.specs.Causes.{Column, value, cell_causes, column_causes, is_empty, whole_column}
+use Rattle.ps_frame.specs.Causes.{Cause, Column, value, cell_causes, column_causes, is_empty, whole_column}
 use Rattle.ps_frame.specs.Eval.{eval}
 use Rattle.ps_frame.specs.Tables.{Fields, Table, column_at, columns_of, field_index, field_kind, values_at, values_at_some}
 use Rattle.ps_frame.specs.Trees.{Tree}
@@ -18,7 +18,7 @@ use Rattle.ps_frame.specs.declared.value.Value.{Value}
 use Rattle.ps_frame.specs.declared.value.Value.TheVariants as val
 use Rattle.ps_meaning.specs.Cases.{columns_at, hstack_places}
 use Rattle.ps_meaning.specs.Distinct.{picked, places_in}
-use Rattle.ps_meaning.specs.Schemas.{names_of}
+use Rattle.ps_meaning.specs.Schemas.{names_of, put_fields}
 use Rattle.ps_meaning.specs.Steps.{Name, Named}
 use Rattle.ps_meaning.proofs.EvalFits.{stands}
 use Rattle.ps_shares.proofs.Below.{get_below, length_below}
@@ -36,6 +36,11 @@ use Rattle.column_keeps.proofs.Entries.{at_or, index_of, place_is}
 -- an output name is an expression's, or a column's of this schema
 abbrev pub IsOut : List Named → Fields → Name → Type 0
 IsOut es s n = ((m : ℕ) × (index_of n es ≡ Some m) × (m < length es)) ⊎ ((index_of n es ≡ None) × HasKind s n)
+
+-- the output columns of an hstack of these fields over t, in the zip of the table z and the expressions, stand for all of it
+abbrev pub OutsStandForAll : ℕ → List Named → Fields → List Tree → Table → Table → Type 0
+OutsStandForAll at es gs xs t z =
+    ZipsAlike at (columns_of z ++ columns_at at xs z) (map (λ n. at_or (λ m. length z.schema + m) (unwrap_or (field_index n z.schema) 0) (index_of n es)) (names_of (put_fields t.schema gs)))
 
 -- the places that expressions behind a row have
 from_at : {A : Type 0} (w : ℕ) (xs : List A) (m : ℕ) → m < length xs → get_or (places_from w xs) m 0 ≡ w + m
@@ -175,66 +180,69 @@ module _ (es : List Named) (s f : Fields) (keys : List Tree) (count : length key
         let q = out_columns out all.1 in
         ((λ i. p.0 i ∷ q.0 i), (p.1, q.1))
 
-    -- Where each expression's name is among the output's, and some column's that no expression has, they stand for all.
-    module _ (out : List Name) (all : AllByRecursion (IsOut es s) out) (each : (m : ℕ) → m < length es → (n : Name) × Has out n × (index_of n es ≡ Some m)) (other : Name) (among : Has out other) (free : index_of other es ≡ None) (has : HasKind s other) where
-      abbrev ds : List Column
+    -- the columns of output names
+    module _ (out : List Name) (all : AllByRecursion (IsOut es s) out) where
+      abbrev pub ds : List Column
       ds = columns_in cs (map place out)
 
       given : ds ≡ columns_at at (map expr out) z
       given = (out_columns out all).0
 
-      there : (n : Name) → Has out n → Has ds (eval at z (expr n))
+      pub there : (n : Name) → Has out n → Has ds (eval at z (expr n))
       there n h = subst (λ (xs : List Column). Has xs (eval at z (expr n))) (sym given) (has_map (eval at z) (map expr out) (expr n) (has_map expr out n h))
 
-      own_place : (j : ℕ) × Has ds (column_at j z)
-      own_place =
+      pub own_extent : (j : ℕ) → extent_of (column_at j z) ≡ record { ended = not (is_empty z.broken); len = length z.rows }
+      own_extent j =
+          let l = length-map (values_at j z.rows) value ∙ length-map z.rows (λ row. get_or row j val.Null) in
+          λ i. record { ended = not (is_empty z.broken); len = l i }
+
+      -- the table's columns aren't needed beside one that is as long, and shows what ended them
+      pub own_unneeded : (x : Column) → Has ds x → extent_of x ≡ record { ended = not (is_empty z.broken); len = length z.rows } → ((c : Cause) → Has z.broken c → Has x.broken c) → (c : Column) → Has own c → IsUnneeded ds c
+      own_unneeded x inside extent shows c h =
+          let r = of_map (λ j. column_at j z) (below (length z.schema)) c h in
+          subst (IsUnneeded ds) r.2 (record {
+            clear = ((values_at r.0 z.rows, refl), refl);
+            as_long = from_has (extents ds) (extent_of (column_at r.0 z)) (subst (Has (extents ds)) (extent ∙ sym (own_extent r.0)) (has_map extent_of ds x inside));
+            causes = λ d has. from_has (flat_map column_causes ds) d (has_flat column_causes ds x d inside (has_last (flat_map cell_causes x.cells) x.broken d (shows d (to_has z.broken d has))));
+          })
+
+      -- so it is where the name of some column that no expression has is among them
+      pub beside_kept : (other : Name) → Has out other → index_of other es ≡ None → HasKind s other → (c : Column) → Has own c → IsUnneeded ds c
+      beside_kept other among free has =
           let k = kind_of (field_kind other s) has in
           let at_f = stands other f k.0 (same other has ∙ k.1) in
           let index : field_index other z.schema ≡ Some at_f.0 = ap (field_index other) of_f ∙ at_f.1 in
           let is : eval at z (expr other) ≡ column_at at_f.0 z =
           ap (λ o. eval at z (at_or (λ m. get_or keys m Tree.missing) (Tree.column other) o)) free ∙ ap (λ (o : Option ℕ). record { cells = map value (values_at_some o z.rows); broken = z.broken; lost = [] }) index in
-          (at_f.0, subst (Has ds) is (there other among))
+          own_unneeded (column_at at_f.0 z) (subst (Has ds) is (there other among)) (own_extent at_f.0) (λ c h. h)
 
-      own_extent : (j : ℕ) → extent_of (column_at j z) ≡ record { ended = not (is_empty z.broken); len = length z.rows }
-      own_extent j =
-          let l = length-map (values_at j z.rows) value ∙ length-map z.rows (λ row. get_or row j val.Null) in
-          λ i. record { ended = not (is_empty z.broken); len = l i }
+      -- Where each expression's name is among the output's, and the table's columns aren't needed beside the output's, these stand for all.
+      module _ (each : (m : ℕ) → m < length es → (n : Name) × Has out n × (index_of n es ≡ Some m)) (unneeded : (c : Column) → Has own c → IsUnneeded ds c) where
+        beside_there : (xs : List Tree) (before : ℕ) → ((m : ℕ) → m < length xs → get_or keys (before + m) Tree.missing ≡ get_or xs m Tree.missing) → before + length xs ≡ length es → (c : Column) → Has (columns_at at xs z) c → Has ds c
+        beside_there [] before is long c h = absurd h
+        beside_there (x ∷ xs) before is long c (inl e) =
+            let n = each before (omega arith) in
+            let at_place : expr n.0 ≡ x = ap (λ o. at_or (λ m. get_or keys m Tree.missing) (Tree.column n.0) o) n.2 ∙ ap (λ k. get_or keys k Tree.missing) (sym (plus_zero before)) ∙ is 0 (omega arith) in
+            subst (Has ds) (ap (eval at z) at_place ∙ e) (there n.0 n.1)
+          where
+            plus_zero : (k : ℕ) → k + 0 ≡ k
+            plus_zero k = omega arith
+        beside_there (x ∷ xs) before is long c (inr h) =
+            beside_there xs (suc before) (λ m lt. let e : suc before + m ≡ before + suc m = omega arith in ap (λ k. get_or keys k Tree.missing) e ∙ is (suc m) (omega arith)) (omega arith) c h
 
-      own_unneeded : (c : Column) → Has own c → IsUnneeded ds c
-      own_unneeded c h =
-          let r = of_map (λ j. column_at j z) (below (length z.schema)) c h in
-          let k = own_place.0 in
-          subst (IsUnneeded ds) r.2 (record {
-            clear = ((values_at r.0 z.rows, refl), refl);
-            as_long = from_has (extents ds) (extent_of (column_at r.0 z)) (subst (Has (extents ds)) (own_extent k ∙ sym (own_extent r.0)) (has_map extent_of ds (column_at k z) own_place.1));
-            causes = λ x inside. from_has (flat_map column_causes ds) x (has_flat column_causes ds (column_at k z) x own_place.1 (has_last (flat_map cell_causes (column_at k z).cells) z.broken x (to_has z.broken x inside)));
-          })
+        pub stands_for_all : StandForAll cs (map place out)
+        stands_for_all =
+            record {
+              inside = (out_columns out all).1;
+              others = λ c h. by c (has_either own beside c (to_has cs c h));
+            }
+          where
+            by : (c : Column) → Has own c ⊎ Has beside c → Contains ds c ⊎ IsUnneeded ds c
+            by c (inl k) = inr (unneeded c k)
+            by c (inr k) = inl (from_has ds c (beside_there keys 0 (λ m lt. ap (λ k. get_or keys k Tree.missing) (zero_plus m)) (omega (arith, count)) c k))
+              where
+                zero_plus : (k : ℕ) → 0 + k ≡ k
+                zero_plus k = omega arith
 
-      beside_there : (xs : List Tree) (before : ℕ) → ((m : ℕ) → m < length xs → get_or keys (before + m) Tree.missing ≡ get_or xs m Tree.missing) → before + length xs ≡ length es → (c : Column) → Has (columns_at at xs z) c → Has ds c
-      beside_there [] before is long c h = absurd h
-      beside_there (x ∷ xs) before is long c (inl e) =
-          let n = each before (omega arith) in
-          let at_place : expr n.0 ≡ x = ap (λ o. at_or (λ m. get_or keys m Tree.missing) (Tree.column n.0) o) n.2 ∙ ap (λ k. get_or keys k Tree.missing) (sym (plus_zero before)) ∙ is 0 (omega arith) in
-          subst (Has ds) (ap (eval at z) at_place ∙ e) (there n.0 n.1)
-        where
-          plus_zero : (k : ℕ) → k + 0 ≡ k
-          plus_zero k = omega arith
-      beside_there (x ∷ xs) before is long c (inr h) =
-          beside_there xs (suc before) (λ m lt. let e : suc before + m ≡ before + suc m = omega arith in ap (λ k. get_or keys k Tree.missing) e ∙ is (suc m) (omega arith)) (omega arith) c h
-
-      pub stands_for_all : StandForAll cs (map place out)
-      stands_for_all =
-          record {
-            inside = (out_columns out all).1;
-            others = λ c h. by c (has_either own beside c (to_has cs c h));
-          }
-        where
-          by : (c : Column) → Has own c ⊎ Has beside c → Contains ds c ⊎ IsUnneeded ds c
-          by c (inl k) = inr (own_unneeded c k)
-          by c (inr k) = inl (from_has ds c (beside_there keys 0 (λ m lt. ap (λ k. get_or keys k Tree.missing) (zero_plus m)) (omega (arith, count)) c k))
-            where
-              zero_plus : (k : ℕ) → 0 + k ≡ k
-              zero_plus k = omega arith
-
-      pub columns_alike : ZipsAlike at cs (map place out)
-      columns_alike = zips_alike at cs (map place out) stands_for_all
+        pub columns_alike : ZipsAlike at cs (map place out)
+        columns_alike = zips_alike at cs (map place out) stands_for_all

@@ -1,4 +1,4 @@
--- A group-by of own columns with the first value of each other one is the distinct by these.
+-- A group-by of own columns with the picked value of each other one is the distinct by these that keeps the picked rows.
 use Rattle.std.proofs.Common.{◌≡◌, ◌≢◌, ◌⊎◌, inl, inr, ℕ, ◌+◌, ◌<◌, ◌≤◌, Bool, true, false, cond, List, [], ◌∷◌, ◌++◌, length, take, drop, get_or, Option, Some, None, refl, sym, ap, subst, ◌∙◌, arith}
 use Rattle.std.specs.Prelude.{Contains, IsTrue, filter, flat_map, map, if◌then◌else◌}
 use Rattle.std.specs.List.{AllByRecursion}
@@ -12,14 +12,14 @@ use Rattle.ps_frame.specs.Free.{free_causes}
 use Rattle.ps_frame.specs.Functions.{Functions}
 use Rattle.ps_frame.specs.Parts.{tree_parts}
 use Rattle.ps_frame.specs.Tables.{Fields, Table, field_index, no_rows, values_at, values_at_some}
-use Rattle.ps_frame.specs.Trees.{Tree}
+use Rattle.ps_frame.specs.Trees.{Aggregation, Tree}
 use Rattle.ps_frame.specs.Typing.{is_elementwise}
 use Rattle.ps_frame.specs.Values.{same_row}
 use Rattle.ps_frame.specs.Zip.{Zipped, below}
 use Rattle.ps_frame.specs.declared.value.Value.{Value}
 use Rattle.ps_frame.specs.declared.value.Value.TheVariants as val
 use Rattle.ps_meaning.specs.Cases.{Case, GivesBeforeCut, IsCaseBrokenBy, cut_by, if_whole, keyed, lost_causes, out_schema, rows_table, with_group_causes}
-use Rattle.ps_meaning.specs.Distinct.{first_rows, kept_rows, key_places, picked, places_in}
+use Rattle.ps_meaning.specs.Distinct.{distinct_rows, kept_rows, key_places, picked, places_in}
 use Rattle.ps_meaning.specs.Groups.{Group, group_causes_lost, group_rows, groups, groups_table, rows_before_faulty, rows_of_key}
 use Rattle.ps_meaning.specs.Meaning.{HasLargeColumn, IsLargeCase}
 use Rattle.ps_meaning.specs.Orders.{IsOrder}
@@ -35,7 +35,9 @@ use Rattle.step_keeps.specs.Kept.{SomeIsLarge}
 use Rattle.picked_zips.proofs.Members.{of_map}
 use Rattle.keyed_calls.specs.Keyed.{AllStand}
 use Rattle.distinct_keeps.proofs.KeyedColumns.{b_causes, b_lost, b_rows, kp, whole_from, whole_to}
-use Rattle.distinct_keeps.proofs.Restored.{all_groups, clear_causes, clear_rows, first_column, firsts, groups_clear, groups_lose_none, groups_restored, groups_wide, restore}
+use Rattle.distinct_keeps.proofs.FirstRows.{with_key}
+use Rattle.distinct_keeps.proofs.Picks.{Picks}
+use Rattle.distinct_keeps.proofs.Restored.{all_groups, clear_causes, clear_rows, groups_clear, groups_lose_none, groups_restored, groups_wide, picked_column, picked_of, restore}
 
 -- what stays in order under a map
 order_map : {A B : Type 0} (f : A → B) (m : Bool) (xs ys : List A) → IsOrder m xs ys → IsOrder m (map f xs) (map f ys)
@@ -46,14 +48,14 @@ order_itself : {A : Type 0} (m : Bool) (xs : List A) → IsOrder m xs xs
 order_itself true xs = refl
 order_itself false xs = IsPermutation-refl xs
 
-no_free : (at : ℕ) (s : Fields) (rows : List (List Value)) (ns : List Name) → flat_map (free_causes at) (map (firsts at s rows) ns) ≡ []
-no_free at s rows [] = refl
-no_free at s rows (n ∷ ns) = no_free at s rows ns
+no_free : (a : Aggregation) (picks : Picks a) (at : ℕ) (s : Fields) (rows : List (List Value)) (ns : List Name) → flat_map (free_causes at) (map (picked_of a picks at s rows) ns) ≡ []
+no_free a picks at s rows [] = refl
+no_free a picks at s rows (n ∷ ns) = let p = picks.free at n in let q = no_free a picks at s rows ns in λ i. p i ++ q i
 
-module _ (F : Functions) (at : ℕ) (t : Table) (keys others : List Name) (placed : AllStand t.schema keys) (others_placed : AllStand t.schema others) (some : t.schema ≢ []) (wide : AllByRecursion (λ (row : List Value). length row ≡ length t.schema) t.rows)
+module _ (a : Aggregation) (picks : Picks a) (F : Functions) (at : ℕ) (t : Table) (keys others : List Name) (placed : AllStand t.schema keys) (others_placed : AllStand t.schema others) (some : t.schema ≢ []) (wide : AllByRecursion (λ (row : List Value). length row ≡ length t.schema) t.rows)
     (names : has_distinct_names t.schema ≡ true) (g : Fields) (named : names_of g ≡ keys ++ others) (covers : (n : Name) → is_among n (names_of t.schema) ≡ true → is_among n (keys ++ others) ≡ true)
-    (o : GroupStep) (of_keys : exprs_of o.keys ≡ columns_named keys) (of_aggs : exprs_of o.aggregates ≡ map (firsts at t.schema (keyed at (columns_named keys) t).rows) others) (uncut : o.cut ≡ None) (out : out_schema F at (group_by o) (t ∷ []) ≡ g)
-    (d : DistinctStep) (same_order : d.maintain_order ≡ o.maintain_order) (firsts_kept : (rows : List (List Value)) → kept_rows d.keep (key_places d t.schema) rows ≡ first_rows (kp at t keys placed some) rows) where
+    (o : GroupStep) (of_keys : exprs_of o.keys ≡ columns_named keys) (of_aggs : exprs_of o.aggregates ≡ map (picked_of a picks at t.schema (keyed at (columns_named keys) t).rows) others) (uncut : o.cut ≡ None) (out : out_schema F at (group_by o) (t ∷ []) ≡ g)
+    (d : DistinctStep) (keeps : let places = kp at t keys placed some in (ys : List (List Value)) → IsOrder o.maintain_order (map (λ key. picks.row (with_key places key t.rows)) (distinct_rows (map (picked places) t.rows))) ys → IsOrder d.maintain_order (kept_rows d.keep (key_places d t.schema) t.rows) ys) where
   abbrev s : Fields
   s = t.schema
 
@@ -61,7 +63,7 @@ module _ (F : Functions) (at : ℕ) (t : Table) (keys others : List Name) (place
   b = keyed at (columns_named keys) t
 
   abbrev aggs : List Tree
-  aggs = map (firsts at s b.rows) others
+  aggs = map (picked_of a picks at s b.rows) others
 
   abbrev given : Zipped
   given = keyed at (exprs_of o.keys) t
@@ -70,7 +72,7 @@ module _ (F : Functions) (at : ℕ) (t : Table) (keys others : List Name) (place
   same_zip = ap (λ es. keyed at es t) of_keys
 
   abbrev back : List Value → List Value
-  back = restore at t keys others placed others_placed some wide names g named covers
+  back = restore a picks at t keys others placed others_placed some wide names g named covers
 
   abbrev IsRow : List Value → Type 0
   IsRow row = length row ≡ length keys + length others
@@ -81,10 +83,10 @@ module _ (F : Functions) (at : ℕ) (t : Table) (keys others : List Name) (place
   -- the rows of groups in some order
   kept_by : (gs : List Group) → IsOrder o.maintain_order (groups at (exprs_of o.aggregates) s given.rows) gs → IsDistinct (if_whole s t.broken (rows_table s (map (λ (x : Group). back x.cells) gs)))
   kept_by gs order =
-      let order' : IsOrder o.maintain_order (all_groups at t keys others placed others_placed some wide names g named covers) gs = subst (λ hs. IsOrder o.maintain_order hs gs) (λ i. groups at (of_aggs i) s (same_zip i).rows) order in
-      let mapped = order_map (λ (x : Group). back x.cells) o.maintain_order (all_groups at t keys others placed others_placed some wide names g named covers) gs order' in
-      let rows = subst (λ rs. IsOrder o.maintain_order rs (map (λ (x : Group). back x.cells) gs)) (groups_restored at t keys others placed others_placed some wide names g named covers ∙ sym (firsts_kept t.rows)) mapped in
-      inl (map (λ (x : Group). back x.cells) gs, subst (λ m. IsOrder m (kept_rows d.keep (key_places d s) t.rows) (map (λ (x : Group). back x.cells) gs)) (sym same_order) rows, refl)
+      let order' : IsOrder o.maintain_order (all_groups a picks at t keys others placed others_placed some wide names g named covers) gs = subst (λ hs. IsOrder o.maintain_order hs gs) (λ i. groups at (of_aggs i) s (same_zip i).rows) order in
+      let mapped = order_map (λ (x : Group). back x.cells) o.maintain_order (all_groups a picks at t keys others placed others_placed some wide names g named covers) gs order' in
+      let rows = subst (λ rs. IsOrder o.maintain_order rs (map (λ (x : Group). back x.cells) gs)) (groups_restored a picks at t keys others placed others_placed some wide names g named covers) mapped in
+      inl (map (λ (x : Group). back x.cells) gs, keeps (map (λ (x : Group). back x.cells) gs) rows, refl)
 
   pub record Distinguished (L : Table) : Type 0 where
     pub table : Table
@@ -110,7 +112,7 @@ module _ (F : Functions) (at : ℕ) (t : Table) (keys others : List Name) (place
       clear : AllByRecursion (λ (x : Group). x.causes ≡ []) gs
       clear =
           all-order (λ (x : Group). x.causes ≡ []) o.maintain_order (groups at aggs s b.rows) gs (subst (λ hs. IsOrder o.maintain_order hs gs) (λ i. groups at (of_aggs i) s (same_zip i).rows) order)
-          (groups_clear at t keys others placed others_placed some wide names g named covers)
+          (groups_clear a picks at t keys others placed others_placed some wide names g named covers)
 
       by : (cs : List Cause) → t.broken ≡ cs → (ds : List Cause) → given.broken ≡ ds
           → ((if_whole s t.broken (rows_table s (map (λ (x : Group). back x.cells) gs))).rows ≡ map back L.rows) × (is_empty (if_whole s t.broken (rows_table s (map (λ (x : Group). back x.cells) gs))).broken ≡ is_empty L.broken)
@@ -139,7 +141,7 @@ module _ (F : Functions) (at : ℕ) (t : Table) (keys others : List Name) (place
   lost_nothing : (rows : List (List Value)) → lost_causes F at (group_by o) (t ∷ []) rows ≡ []
   lost_nothing rows =
       (λ i. (same_zip i).lost ++ ((if is_empty (same_zip i).broken then group_causes_lost at (of_aggs i) s (same_zip i).rows else []) ++ (if is_empty rows then flat_map (free_causes at) (of_aggs i) else [])))
-      ∙ (λ i. b_lost at t keys placed some i ++ ((if is_empty b.broken then groups_lose_none at t keys others placed others_placed some wide names g named covers i else []) ++ (if is_empty rows then no_free at s b.rows others i else [])))
+      ∙ (λ i. b_lost at t keys placed some i ++ ((if is_empty b.broken then groups_lose_none a picks at t keys others placed others_placed some wide names g named covers i else []) ++ (if is_empty rows then no_free a picks at s b.rows others i else [])))
       ∙ none (is_empty b.broken) (is_empty rows)
     where
       none : (p q : Bool) → cond {A = List Cause} p [] [] ++ cond {A = List Cause} q [] [] ≡ []
@@ -187,22 +189,22 @@ module _ (F : Functions) (at : ℕ) (t : Table) (keys others : List Name) (place
           subst (λ (T : Table). AllByRecursion IsRow T.rows) (sym e)
           (whole_wide (out_schema F at (group_by o) (t ∷ [])) (with_group_causes given.broken gs) gs
           (all-order (λ (x : Group). length x.cells ≡ length keys + length others) o.maintain_order (groups at aggs s b.rows) gs (subst (λ hs. IsOrder o.maintain_order hs gs) (λ i. groups at (of_aggs i) s (same_zip i).rows) order)
-          (groups_wide at t keys others placed others_placed some wide names g named covers)))
+          (groups_wide a picks at t keys others placed others_placed some wide names g named covers)))
       by U (inr (V, h, lost, e)) = absurd (lost (lost_nothing V.rows))
 
-  -- what the distinct gives, in the order of its first rows
-  abbrev first_given : Table
-  first_given = if_whole s t.broken (rows_table s (map (λ (x : Group). back x.cells) (groups at (exprs_of o.aggregates) s given.rows)))
+  -- what the distinct gives, in the order of its groups
+  abbrev one_given : Table
+  one_given = if_whole s t.broken (rows_table s (map (λ (x : Group). back x.cells) (groups at (exprs_of o.aggregates) s given.rows)))
 
-  gives_first : IsDistinct first_given
-  gives_first = kept_by (groups at (exprs_of o.aggregates) s given.rows) (order_itself o.maintain_order (groups at (exprs_of o.aggregates) s given.rows))
+  gives_one : IsDistinct one_given
+  gives_one = kept_by (groups at (exprs_of o.aggregates) s given.rows) (order_itself o.maintain_order (groups at (exprs_of o.aggregates) s given.rows))
 
   own_cause : (cs : List Cause) (rows : List (List Value)) (c : Cause) → Has cs c → Has (if_whole s cs (rows_table s rows)).broken c
   own_cause [] rows c h = absurd h
   own_cause (x ∷ cs) rows c h = h
 
   breaks : (c : Cause) → Contains t.broken c → IsCaseBrokenBy F at (distinct d) (t ∷ []) c
-  breaks c h = (first_given, inr gives_first, from_has first_given.broken c (own_cause t.broken (map (λ (x : Group). back x.cells) (groups at (exprs_of o.aggregates) s given.rows)) c (to_has t.broken c h)))
+  breaks c h = (one_given, inr gives_one, from_has one_given.broken c (own_cause t.broken (map (λ (x : Group). back x.cells) (groups at (exprs_of o.aggregates) s given.rows)) c (to_has t.broken c h)))
 
   cause_before : (U : Table) (c : Cause) → GivesBeforeCut F at (group_by o) (t ∷ []) U → Contains U.broken c → Contains t.broken c
   cause_before U c (inr (V, h, lost, e)) k = absurd (lost (lost_nothing V.rows))
@@ -211,7 +213,7 @@ module _ (F : Functions) (at : ℕ) (t : Table) (keys others : List Name) (place
       clear : AllByRecursion (λ (x : Group). x.causes ≡ []) gs
       clear =
           all-order (λ (x : Group). x.causes ≡ []) o.maintain_order (groups at aggs s b.rows) gs (subst (λ hs. IsOrder o.maintain_order hs gs) (λ i. groups at (of_aggs i) s (same_zip i).rows) order)
-          (groups_clear at t keys others placed others_placed some wide names g named covers)
+          (groups_clear a picks at t keys others placed others_placed some wide names g named covers)
 
       by : (ds : List Cause) → given.broken ≡ ds → Has U.broken c → Contains t.broken c
       by [] q h =
@@ -244,15 +246,15 @@ module _ (F : Functions) (at : ℕ) (t : Table) (keys others : List Name) (place
 
   large_group : (key : List Value) → HasLargeColumn at (exprs_of o.aggregates) (group_rows s given.rows key) → max_rows < length t.rows
   large_group key (e, p, there, part, long) =
-      let r = of_map (firsts at s b.rows) others e (to_has aggs e (subst (λ es. Contains es e) of_aggs there)) in
-      by r.0 (to_has (tree_parts (firsts at s b.rows r.0)) p (subst (λ e. Contains (tree_parts e) p) (sym r.2) part))
+      let r = of_map (picked_of a picks at s b.rows) others e (to_has aggs e (subst (λ es. Contains es e) of_aggs there)) in
+      by r.0 (to_has (tree_parts (picked_of a picks at s b.rows r.0)) p (subst (λ e. Contains (tree_parts e) p) (sym r.2) part))
     where
       few : length (rows_of_key (length s) key given.rows) ≤ length given.rows
       few = let l = length-map (filter (λ row. same_row key (drop (length s) row)) given.rows) (take (length s)) in let m = fewer (λ row. same_row key (drop (length s) row)) given.rows in omega arith
 
-      by : (n : Name) → (firsts at s b.rows n ≡ p) ⊎ ((Tree.column n ≡ p) ⊎ ⊥) → max_rows < length t.rows
+      by : (n : Name) → (picked_of a picks at s b.rows n ≡ p) ⊎ ((Tree.column n ≡ p) ⊎ ⊥) → max_rows < length t.rows
       by n (inl q) =
-          let l = ap (λ (c : Column). length c.cells) (ap (eval at (group_rows s given.rows key)) (sym q) ∙ first_column at s (rows_of_key (length s) key given.rows) n) in
+          let l = ap (λ (c : Column). length c.cells) (ap (eval at (group_rows s given.rows key)) (sym q) ∙ picked_column a picks at s (rows_of_key (length s) key given.rows) n) in
           let m = some_rows in
           absurd (omega arith)
       by n (inr (inl q)) =

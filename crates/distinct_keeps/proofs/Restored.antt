@@ -1,5 +1,5 @@
--- What a group of own columns gives: the first row of its key.
-use Rattle.std.proofs.Common.{◌≡◌, ◌≢◌, ℕ, ◌+◌, ◌<◌, Bool, true, false, not, cond, List, [], ◌∷◌, ◌++◌, length, take, get_or, Some, refl, sym, ap, subst, ◌∙◌, arith, length-append}
+-- What a group of own columns gives: a row of its key.
+use Rattle.std.proofs.Common.{◌≡◌, ◌≢◌, inl, inr, ℕ, ◌+◌, ◌<◌, Bool, true, false, not, cond, List, [], ◌∷◌, ◌++◌, length, take, get_or, Some, refl, sym, ap, subst, ◌∙◌, arith, length-append}
 use Rattle.std.specs.Prelude.{flat_map, map, unwrap_or, ◌||◌, if◌then◌else◌}
 use Rattle.std.specs.List.{AllByRecursion, list_any}
 use Rattle.std.specs.Str.{bytes_eq}
@@ -8,10 +8,11 @@ use Rattle.std.proofs.Math.Seq.{take-length}
 use Rattle.std.proofs.lemmas.List.{get_or-map, length-map, map-append}
 use Rattle.std.proofs.lemmas.List.Quantifiers.{position-Some}
 use Rattle.ps_frame.proofs.NamePlaces.{is_some-position}
+use Rattle.ps_frame.specs.Aggregates.{aggregate_column}
 use Rattle.ps_frame.specs.Causes.{Column, value, cell_values, column_causes, has_cause, is_empty}
 use Rattle.ps_frame.specs.Eval.{eval}
 use Rattle.ps_frame.specs.Frames.{has_distinct_names, has_name}
-use Rattle.ps_frame.specs.Tables.{Fields, Table, field_index, table_column, values_at_some}
+use Rattle.ps_frame.specs.Tables.{Fields, Table, field_index, field_kind, table_column, values_at_some}
 use Rattle.ps_frame.specs.Trees.{Aggregation, Tree}
 use Rattle.ps_frame.specs.Values.{same_row}
 use Rattle.ps_frame.specs.declared.value.DataType.{DataType}
@@ -19,7 +20,7 @@ use Rattle.ps_frame.specs.declared.value.DataType.TheVariants as kind
 use Rattle.ps_frame.specs.declared.value.Value.{Value}
 use Rattle.ps_frame.specs.declared.value.Value.TheVariants as val
 use Rattle.ps_meaning.specs.Cases.{keyed}
-use Rattle.ps_meaning.specs.Distinct.{distinct_rows, first_rows, picked, places_in}
+use Rattle.ps_meaning.specs.Distinct.{distinct_rows, picked, places_in}
 use Rattle.ps_meaning.specs.Groups.{Group, group_causes_lost, group_of, group_rows, groups, keys_of, only_value, rows_before_faulty, rows_of_key}
 use Rattle.ps_meaning.proofs.Fits.{all-map, all-of}
 use Rattle.ps_meaning.proofs.StepFits.{distinct-all}
@@ -30,52 +31,57 @@ use Rattle.ps_shares.proofs.Aggregated.{map_again}
 use Rattle.ps_shares.proofs.ClearZips.{no_causes}
 use Rattle.ps_shares.proofs.Projected.{named_as, place_of}
 use Rattle.ps_bundles.proofs.ZipEnds.{values_back}
-use Rattle.picked_zips.proofs.Members.{map_each}
+use Rattle.ps_keys.proofs.SameRows.{same_row-is}
+use Rattle.ps_shares.proofs.Members.{Has}
+use Rattle.picked_zips.proofs.Members.{map_each, of_those}
 use Rattle.keyed_calls.specs.Keyed.{AllStand}
 use Rattle.filter_keeps.proofs.Masks.{own_front}
-use Rattle.distinct_keeps.proofs.FirstRows.{first_of, first_rows_are, has_key, keys_there, with_key}
+use Rattle.distinct_keeps.proofs.FirstRows.{keys_there, with_key}
 use Rattle.distinct_keeps.proofs.KeyedColumns.{b_keys, b_of_key, kp}
+use Rattle.distinct_keeps.proofs.Picks.{Picks}
 
--- the first value of a column of rows
-module _ (at : ℕ) (s : Fields) (rows : List (List Value)) where
-  abbrev gt : Table
+-- the picked value of a column of rows
+module _ (a : Aggregation) (picks : Picks a) (at : ℕ) (s : Fields) (rows : List (List Value)) where
+  abbrev pub gt : Table
   gt = record { schema = s; rows = rows; broken = [] }
 
-  abbrev pub firsts : Name → Tree
-  firsts n = Tree.aggregate Aggregation.first (Tree.column n)
+  abbrev pub picked_of : Name → Tree
+  picked_of n = Tree.aggregate a (Tree.column n)
 
   abbrev values : Name → List Value
   values n = values_at_some (field_index n s) rows
 
-  pub first_column : (n : Name) → eval at gt (firsts n) ≡ record { cells = value (get_or (values n) 0 val.Null) ∷ []; broken = []; lost = [] }
-  first_column n =
+  pub picked_column : (n : Name) → eval at gt (picked_of n) ≡ record { cells = value (picks.value (values n)) ∷ []; broken = []; lost = [] }
+  picked_column n =
       let none = no_causes (values n) in
       let clear : has_cause (table_column n gt) ≡ false = ap (λ xs. not (is_empty (xs ++ []))) none in
-      ap (λ b. cond (b || false) (record { cells = []; broken = flat_map column_causes (table_column n gt ∷ []); lost = [] }) (record { cells = value (get_or (cell_values (map value (values n))) 0 val.Null) ∷ []; broken = []; lost = [] })) clear
-      ∙ ap (λ vs. record { cells = value (get_or vs 0 val.Null) ∷ []; broken = []; lost = [] }) (values_back (values n))
+      ap (λ b. cond {A = Column} (b || false) (record { cells = []; broken = flat_map column_causes (table_column n gt ∷ []); lost = [] }) (record (aggregate_column at a (field_kind n s) (cell_values (map value (values n)))) { lost = [] })) clear
+      ∙ ap (λ vs. record (aggregate_column at a (field_kind n s) vs) { lost = [] }) (values_back (values n))
+      ∙ ap (λ (c : Column). record c { lost = [] }) (picks.column at (field_kind n s) (values n))
 
-  first_value : (n : Name) (j : ℕ) → field_index n s ≡ Some j → get_or (values n) 0 val.Null ≡ get_or (get_or rows 0 []) j val.Null
-  first_value n j e = ap (λ o. get_or (values_at_some o rows) 0 val.Null) e ∙ by rows
-    where
-      by : (rows : List (List Value)) → get_or (map (λ row. get_or row j val.Null) rows) 0 val.Null ≡ get_or (get_or rows 0 []) j val.Null
-      by [] = refl
-      by (row ∷ rows) = refl
+  picked_value : (n : Name) (j : ℕ) → field_index n s ≡ Some j → picks.value (values n) ≡ get_or (picks.row rows) j val.Null
+  picked_value n j e = ap (λ o. picks.value (values_at_some o rows)) e ∙ picks.of_rows j rows
 
-  only_first : (ns : List Name) → AllStand s ns → map only_value (map (eval at gt) (map firsts ns)) ≡ picked (places_in ns s) (get_or rows 0 [])
-  only_first [] placed = refl
-  only_first (n ∷ ns) placed =
+  only_picked : (ns : List Name) → AllStand s ns → map only_value (map (eval at gt) (map picked_of ns)) ≡ picked (places_in ns s) (picks.row rows)
+  only_picked [] placed = refl
+  only_picked (n ∷ ns) placed =
       let j = placed.0.0 in
-      let first = ap only_value (first_column n) ∙ first_value n j placed.0.1 ∙ sym (ap (λ o. get_or (get_or rows 0 []) (unwrap_or o 0) val.Null) placed.0.1) in
-      let rest = only_first ns placed.1 in
+      let first = ap only_value (picked_column n) ∙ picked_value n j placed.0.1 ∙ sym (ap (λ o. get_or (picks.row rows) (unwrap_or o 0) val.Null) placed.0.1) in
+      let rest = only_picked ns placed.1 in
       λ i. first i ∷ rest i
 
-  no_cause : (ns : List Name) → flat_map column_causes (map (eval at gt) (map firsts ns)) ≡ []
+  no_cause : (ns : List Name) → flat_map column_causes (map (eval at gt) (map picked_of ns)) ≡ []
   no_cause [] = refl
-  no_cause (n ∷ ns) = let p = ap column_causes (first_column n) in let q = no_cause ns in λ i. p i ++ q i
+  no_cause (n ∷ ns) = let p = ap column_causes (picked_column n) in let q = no_cause ns in λ i. p i ++ q i
 
-  none_lost : (ns : List Name) → flat_map (λ (c : Column). c.lost) (map (eval at gt) (map firsts ns)) ≡ []
+  none_lost : (ns : List Name) → flat_map (λ (c : Column). c.lost) (map (eval at gt) (map picked_of ns)) ≡ []
   none_lost [] = refl
-  none_lost (n ∷ ns) = let p = ap (λ (c : Column). c.lost) (first_column n) in let q = none_lost ns in λ i. p i ++ q i
+  none_lost (n ∷ ns) = let p = ap (λ (c : Column). c.lost) (picked_column n) in let q = none_lost ns in λ i. p i ++ q i
+
+all_has : {A : Type 0} (P : A → Type 0) (xs : List A) (x : A) → AllByRecursion P xs → Has xs x → P x
+all_has P [] x all h = absurd h
+all_has P (y ∷ xs) x all (inl e) = subst P e all.0
+all_has P (y ∷ xs) x all (inr h) = all_has P xs x all.1 h
 
 -- values at places of named values
 picked_named : (ns all : List Name) (s g : Fields) (row : List Value) → names_of g ≡ ns → ((n : Name) → is_among n all ≡ true → is_among n ns ≡ true) → picked (places_in all g) (picked (places_in ns s) row) ≡ picked (places_in all s) row
@@ -102,8 +108,8 @@ picked_named ns (n ∷ all) s g row is within =
     right true b h = refl
     right false b h = h
 
--- Groups of a table by columns of its own, with the first value of each other column.
-module _ (at : ℕ) (t : Table) (keys others : List Name) (placed : AllStand t.schema keys) (others_placed : AllStand t.schema others) (some : t.schema ≢ []) (wide : AllByRecursion (λ (row : List Value). length row ≡ length t.schema) t.rows)
+-- Groups of a table by columns of its own, with the picked value of each other column.
+module _ (a : Aggregation) (picks : Picks a) (at : ℕ) (t : Table) (keys others : List Name) (placed : AllStand t.schema keys) (others_placed : AllStand t.schema others) (some : t.schema ≢ []) (wide : AllByRecursion (λ (row : List Value). length row ≡ length t.schema) t.rows)
     (distinct : has_distinct_names t.schema ≡ true) (g : Fields) (named : names_of g ≡ keys ++ others) (covers : (n : Name) → is_among n (names_of t.schema) ≡ true → is_among n (keys ++ others) ≡ true) where
   abbrev s : Fields
   s = t.schema
@@ -112,65 +118,69 @@ module _ (at : ℕ) (t : Table) (keys others : List Name) (placed : AllStand t.s
   rows = (keyed at (columns_named keys) t).rows
 
   abbrev aggs : List Tree
-  aggs = map (firsts at s rows) others
+  aggs = map (picked_of a picks at s rows) others
 
   abbrev places : List ℕ
   places = kp at t keys placed some
 
-  abbrev first : List Value → List Value
-  first key = first_of places key t.rows
+  abbrev pub row_of : List Value → List Value
+  row_of key = picks.row (with_key places key t.rows)
 
   -- the cells of the group of a key that is there
-  cells_are : (key : List Value) → picked places (first key) ≡ key → (group_of at aggs s rows key).cells ≡ picked (places_in (keys ++ others) s) (first key)
+  cells_are : (key : List Value) → picked places (row_of key) ≡ key → (group_of at aggs s rows key).cells ≡ picked (places_in (keys ++ others) s) (row_of key)
   cells_are key own =
       let is : rows_of_key (length s) key rows ≡ with_key places key t.rows = b_of_key at t keys placed some wide key in
-      let values = ap (λ rs. map only_value (map (eval at (record { schema = s; rows = rs; broken = [] })) aggs)) is ∙ only_first at s (with_key places key t.rows) others others_placed in
-      (λ i. sym own i ++ values i) ∙ sym (ap (λ js. picked js (first key)) (map-append (λ n. unwrap_or (field_index n s) 0) keys others) ∙ map-append (λ k. get_or (first key) k val.Null) (places_in keys s) (places_in others s))
+      let values = ap (λ rs. map only_value (map (eval at (record { schema = s; rows = rs; broken = [] })) aggs)) is ∙ only_picked a picks at s (with_key places key t.rows) others others_placed in
+      (λ i. sym own i ++ values i) ∙ sym (ap (λ js. picked js (row_of key)) (map-append (λ n. unwrap_or (field_index n s) 0) keys others) ∙ map-append (λ k. get_or (row_of key) k val.Null) (places_in keys s) (places_in others s))
 
   no_causes_in : (key : List Value) → (group_of at aggs s rows key).causes ≡ []
-  no_causes_in key = no_cause at s (rows_of_key (length s) key rows) others
+  no_causes_in key = no_cause a picks at s (rows_of_key (length s) key rows) others
 
   -- the columns of the table in order
   abbrev pub restore : List Value → List Value
   restore cells = picked (places_in (names_of s) g) cells
 
-  restored : (key : List Value) → picked places (first key) ≡ key → length (first key) ≡ length s → restore (group_of at aggs s rows key).cells ≡ first key
+  restored : (key : List Value) → picked places (row_of key) ≡ key → length (row_of key) ≡ length s → restore (group_of at aggs s rows key).cells ≡ row_of key
   restored key own long =
       ap restore (cells_are key own)
-      ∙ picked_named (keys ++ others) (names_of s) s g (first key) named covers
-      ∙ own_front s distinct (first key) (omega (arith, long))
-      ∙ ap (λ n. take n (first key)) (sym long) ∙ take-length (first key)
+      ∙ picked_named (keys ++ others) (names_of s) s g (row_of key) named covers
+      ∙ own_front s distinct (row_of key) (omega (arith, long))
+      ∙ ap (λ n. take n (row_of key)) (sym long) ∙ take-length (row_of key)
 
-  -- each first row is as wide as the schema
-  first_wide : (key : List Value) → list_any (λ row. same_row key (picked places row)) t.rows ≡ true → length (first key) ≡ length s
-  first_wide key h = by t.rows wide h
+  -- the row of a key that is there is one of its rows
+  is_there : (key : List Value) → list_any (λ row. same_row key (picked places row)) t.rows ≡ true → Has (with_key places key t.rows) (row_of key)
+  is_there key h = picks.one_of (with_key places key t.rows) (some_with t.rows h)
     where
-      by : (rs : List (List Value)) → AllByRecursion (λ (row : List Value). length row ≡ length s) rs → list_any (λ row. same_row key (picked places row)) rs ≡ true → length (first_of places key rs) ≡ length s
-      by [] wide h = cc
-      by (r ∷ rs) wide h = step (same_row key (picked places r)) refl h (by rs wide.1)
+      some_with : (rs : List (List Value)) → list_any (λ row. same_row key (picked places row)) rs ≡ true → with_key places key rs ≢ []
+      some_with [] h = cc
+      some_with (r ∷ rs) h = step (same_row key (picked places r)) h (some_with rs)
         where
-          step : (b : Bool) → same_row key (picked places r) ≡ b → (same_row key (picked places r) || list_any (λ row. same_row key (picked places row)) rs) ≡ true → (list_any (λ row. same_row key (picked places row)) rs ≡ true → length (first_of places key rs) ≡ length s)
-              → length (first_of places key (r ∷ rs)) ≡ length s
-          step true q h rest = ap (λ b. length (get_or (cond b (r ∷ with_key places key rs) (with_key places key rs)) 0 [])) q ∙ wide.0
-          step false q h rest = ap (λ b. length (get_or (cond b (r ∷ with_key places key rs) (with_key places key rs)) 0 [])) q ∙ rest (sym (ap (λ b. b || list_any (λ row. same_row key (picked places row)) rs) q) ∙ h)
+          step : (b : Bool) → (b || list_any (λ row. same_row key (picked places row)) rs) ≡ true → (list_any (λ row. same_row key (picked places row)) rs ≡ true → with_key places key rs ≢ []) → cond b (r ∷ with_key places key rs) (with_key places key rs) ≢ []
+          step true h rest = λ e. cc
+          step false h rest = rest h
+
+  row_key : (key : List Value) → list_any (λ row. same_row key (picked places row)) t.rows ≡ true → picked places (row_of key) ≡ key
+  row_key key h = let r = of_those (λ row. same_row key (picked places row)) t.rows (row_of key) (is_there key h) in sym (same_row-is key (picked places (row_of key)) r.1)
+
+  row_wide : (key : List Value) → list_any (λ row. same_row key (picked places row)) t.rows ≡ true → length (row_of key) ≡ length s
+  row_wide key h = let r = of_those (λ row. same_row key (picked places row)) t.rows (row_of key) (is_there key h) in all_has (λ (row : List Value). length row ≡ length s) t.rows (row_of key) wide r.0
 
   abbrev pub all_groups : List Group
   all_groups = groups at aggs s rows
 
   -- one for each key, in order
-  pub groups_restored : map (λ (g : Group). restore g.cells) all_groups ≡ first_rows places t.rows
+  pub groups_restored : map (λ (g : Group). restore g.cells) all_groups ≡ map row_of (distinct_rows (map (picked places) t.rows))
   groups_restored =
       let ks = distinct_rows (map (picked places) t.rows) in
       map_again (λ (g : Group). restore g.cells) (group_of at aggs s rows) (keys_of (length s) rows)
       ∙ ap (λ ks. map (λ key. restore (group_of at aggs s rows key).cells) (distinct_rows ks)) (b_keys at t keys placed some wide)
-      ∙ map_each (λ key. restore (group_of at aggs s rows key).cells) first (λ key. list_any (λ row. same_row key (picked places row)) t.rows ≡ true) (λ key h. restored key (has_key places key t.rows h) (first_wide key h)) ks (keys_there places t.rows)
-      ∙ first_rows_are places t.rows
+      ∙ map_each (λ key. restore (group_of at aggs s rows key).cells) row_of (λ key. list_any (λ row. same_row key (picked places row)) t.rows ≡ true) (λ key h. restored key (row_key key h) (row_wide key h)) ks (keys_there places t.rows)
 
   -- with a value for each name
   pub groups_wide : AllByRecursion (λ (g : Group). length g.cells ≡ length keys + length others) all_groups
   groups_wide =
       all-map (λ (key : List Value). length key ≡ length keys) (λ (g : Group). length g.cells ≡ length keys + length others) (group_of at aggs s rows)
-      (λ key long. length-append key (map only_value (map (λ e. eval at (group_rows s rows key) e) aggs)) ∙ (λ i. long i + (length-map (map (λ e. eval at (group_rows s rows key) e) aggs) only_value ∙ length-map aggs (λ e. eval at (group_rows s rows key) e) ∙ length-map others (firsts at s rows)) i))
+      (λ key long. length-append key (map only_value (map (λ e. eval at (group_rows s rows key) e) aggs)) ∙ (λ i. long i + (length-map (map (λ e. eval at (group_rows s rows key) e) aggs) only_value ∙ length-map aggs (λ e. eval at (group_rows s rows key) e) ∙ length-map others (picked_of a picks at s rows)) i))
       (keys_of (length s) rows)
       (subst (λ ks. AllByRecursion (λ (key : List Value). length key ≡ length keys) (distinct_rows ks)) (sym (b_keys at t keys placed some wide))
       (distinct-all (λ (key : List Value). length key ≡ length keys) (map (picked places) t.rows) (all-of (λ (key : List Value). length key ≡ length keys) (picked places) (λ row. length-map places (λ k. get_or row k val.Null) ∙ length-map keys (λ n. unwrap_or (field_index n s) 0)) t.rows)))
@@ -183,7 +193,7 @@ module _ (at : ℕ) (t : Table) (keys others : List Name) (placed : AllStand t.s
     where
       none_of : (ks : List (List Value)) → flat_map (λ key. flat_map (λ (c : Column). c.lost) (map (λ e. eval at (group_rows s rows key) e) aggs)) ks ≡ []
       none_of [] = refl
-      none_of (k ∷ ks) = let p = none_lost at s (rows_of_key (length s) k rows) others in let q = none_of ks in λ i. p i ++ q i
+      none_of (k ∷ ks) = let p = none_lost a picks at s (rows_of_key (length s) k rows) others in let q = none_of ks in λ i. p i ++ q i
 
 -- the table of groups that no cause breaks
 pub clear_rows : (gs : List Group) → AllByRecursion (λ (g : Group). g.causes ≡ []) gs → rows_before_faulty gs ≡ map (λ (g : Group). g.cells) gs

@@ -1,4 +1,4 @@
--- A distinct that keeps the first row of each key: groups by the key columns, and the columns in order.
+-- A distinct that keeps a picked row of each key: groups by the key columns, and the columns in order.
 use Rattle.std.proofs.Common.{◌≡◌, ◌≢◌, ◌⊎◌, inl, inr, ℕ, zero, suc, ◌+◌, ◌<◌, Bool, true, false, not, cond, ◌&&◌, ◌||◌, List, [], ◌∷◌, ◌++◌, length, get_or, Option, Some, None, refl, sym, ap, subst, ◌∙◌, arith, length-append}
 use Rattle.std.proofs.lemmas.List.{append-nil, length-map, map-append}
 use Rattle.std.proofs.lemmas.Option.{same_Some}
@@ -18,14 +18,13 @@ use Rattle.ps_frame.specs.declared.value.DataType.{DataType}
 use Rattle.ps_frame.specs.declared.value.DataType.TheVariants as kind
 use Rattle.ps_frame.specs.declared.value.Value.{Value}
 use Rattle.ps_meaning.specs.Cases.{IsCaseBrokenBy, out_schema}
-use Rattle.ps_meaning.specs.Distinct.{kept_rows, key_places, first_rows, picked, places_in, subset_places}
+use Rattle.ps_meaning.specs.Distinct.{distinct_rows, kept_rows, key_places, picked, places_in, subset_places}
 use Rattle.ps_meaning.specs.Meaning.{IsLargeCase}
+use Rattle.ps_meaning.specs.Orders.{IsOrder}
 use Rattle.ps_meaning.specs.Schemas.{both as both_of, fields_of, is_among, named_fields, names_of}
 use Rattle.ps_meaning.specs.Shape.{IsPhysicalChoice, PhysicalNode, group_by_node, in_memory_map}
 use Rattle.ps_meaning.specs.Sound.{schema_at as schema_there}
 use Rattle.ps_meaning.specs.Steps.{DistinctStep, GroupStep, Name, Named, distinct, exprs_of, group_by}
-use Rattle.ps_meaning.specs.declared.options.UniqueKeepStrategy.{UniqueKeepStrategy}
-use Rattle.ps_meaning.specs.declared.options.UniqueKeepStrategy.TheVariants as keep
 use Rattle.ps_meaning.proofs.Begins.{map-below}
 use Rattle.ps_meaning.proofs.EvalFits.{stands}
 use Rattle.ps_meaning.proofs.Fits.{all-filter}
@@ -50,9 +49,11 @@ use Rattle.picked_zips.proofs.Keyed.{all_both}
 use Rattle.keyed_calls.specs.Keyed.{AllStand}
 use Rattle.keyed_calls.proofs.Projecting.{IsNamed, Projects, is_named, projects}
 use Rattle.keyed_calls.proofs.Told.{Adds, IsFed, Tells, adds_then, fed_later, one_fed, tells_step, tells_then}
+use Rattle.distinct_keeps.proofs.FirstRows.{with_key}
+use Rattle.distinct_keeps.proofs.Picks.{Picks}
 use Rattle.distinct_keeps.proofs.Distincts.{case_schema, case_wide, of_case, same_causes, same_sizes}
 
--- the fields of columns, and of their first values
+-- the fields of columns, and of their picked values
 own_fields_of : (ns : List Name) (s f : Fields) → named_fields ns s ≡ Some f → fields_of (own_columns ns) s ≡ Some f
 own_fields_of [] s f e = e
 own_fields_of (n ∷ ns) s f e = by (field_kind n s) (named_fields ns s) refl e (own_fields_of ns s)
@@ -63,12 +64,13 @@ own_fields_of (n ∷ ns) s f e = by (field_kind n s) (named_fields ns s) refl e 
     by (Some k) None q e rec = cc
     by (Some k) (Some r) q e rec = ap (both_of (λ (k : DataType) (fs : Fields). (n, k) ∷ fs) (Some k)) (rec r q) ∙ e
 
-first_fields_of : (ns : List Name) (s f : Fields) → named_fields ns s ≡ Some f → fields_of (map (λ n. (n, Tree.aggregate Aggregation.first (Tree.column n))) ns) s ≡ Some f
-first_fields_of [] s f e = e
-first_fields_of (n ∷ ns) s f e = by (field_kind n s) (named_fields ns s) refl e (first_fields_of ns s)
+picked_fields_of : (a : Aggregation) (picks : Picks a) (ns : List Name) (s f : Fields) → named_fields ns s ≡ Some f → fields_of (map (λ n. (n, Tree.aggregate a (Tree.column n))) ns) s ≡ Some f
+picked_fields_of a picks [] s f e = e
+picked_fields_of a picks (n ∷ ns) s f e =
+    ap (λ o. both_of (λ (k : DataType) (fs : Fields). (n, k) ∷ fs) o (fields_of (map (λ n. (n, Tree.aggregate a (Tree.column n))) ns) s)) (picks.kind (field_kind n s)) ∙ by (field_kind n s) (named_fields ns s) refl e (picked_fields_of a picks ns s)
   where
-    by : (o : Option DataType) (r : Option Fields) → named_fields ns s ≡ r → both_of (λ (k : DataType) (fs : Fields). (n, k) ∷ fs) o r ≡ Some f → ((fs : Fields) → named_fields ns s ≡ Some fs → fields_of (map (λ n. (n, Tree.aggregate Aggregation.first (Tree.column n))) ns) s ≡ Some fs)
-        → both_of (λ (k : DataType) (fs : Fields). (n, k) ∷ fs) o (fields_of (map (λ n. (n, Tree.aggregate Aggregation.first (Tree.column n))) ns) s) ≡ Some f
+    by : (o : Option DataType) (r : Option Fields) → named_fields ns s ≡ r → both_of (λ (k : DataType) (fs : Fields). (n, k) ∷ fs) o r ≡ Some f → ((fs : Fields) → named_fields ns s ≡ Some fs → fields_of (map (λ n. (n, Tree.aggregate a (Tree.column n))) ns) s ≡ Some fs)
+        → both_of (λ (k : DataType) (fs : Fields). (n, k) ∷ fs) o (fields_of (map (λ n. (n, Tree.aggregate a (Tree.column n))) ns) s) ≡ Some f
     by None None q e rec = cc
     by None (Some r) q e rec = cc
     by (Some k) None q e rec = cc
@@ -170,23 +172,9 @@ all_places s d =
     itself [] = refl
     itself (x ∷ xs) = ap (λ ys. x ∷ ys) (itself xs)
 
--- the first row is kept
-first_kept : (k : UniqueKeepStrategy) → keeps_last k ≡ false → keeps_none k ≡ false → (places : List ℕ) (rows : List (List Value)) → kept_rows k places rows ≡ first_rows places rows
-first_kept keep.First l n places rows = refl
-first_kept keep.Any l n places rows = refl
-first_kept keep.Last l n places rows = cc
-first_kept keep.None l n places rows = cc
-
-first_value : (k : UniqueKeepStrategy) → keeps_last k ≡ false → kept_value k ≡ Aggregation.first
-first_value k l = ap (λ b. if b then Aggregation.last else Aggregation.first) l
-
 schemas_agree : (o : Option PhysicalNode) → schema_there o ≡ schema_or_none o
 schemas_agree None = refl
 schemas_agree (Some p) = refl
-
-and_false : (a b : Bool) → b ≡ false → (a && b) ≡ false
-and_false true b h = h
-and_false false b h = refl
 
 -- the fields of a schema, in another one that has its names and its kinds
 olds : (own g fs : Fields) → AllByRecursion (λ (x : Name × DataType). field_kind x.0 own ≡ Some x.1) g → ((n : Name) → is_among n (names_of fs) ≡ true → is_among n (names_of g) ≡ true) → AllByRecursion (λ (x : Name × DataType). field_kind x.0 own ≡ Some x.1) fs → AllByRecursion (λ (x : Name × DataType). field_kind x.0 g ≡ Some x.1) fs
@@ -200,7 +188,9 @@ olds own g (x ∷ fs) all within kinds = (
     right true b h = refl
     right false b h = h
 
-module _ (F : Functions) (at : ℕ) (s : State) (i : Stream) (o : DistinctStep) (few : keeps_last o.keep ≡ false) (many : keeps_none o.keep ≡ false) (some : schema_at s.nodes i ≢ []) (distinct_names : has_distinct_names (schema_at s.nodes i) ≡ true)
+module _ (a : Aggregation) (picks : Picks a) (F : Functions) (at : ℕ) (s : State) (i : Stream) (o : DistinctStep) (few : (o.maintain_order && keeps_last o.keep) ≡ false) (many : keeps_none o.keep ≡ false) (value_is : kept_value o.keep ≡ a)
+    (keeps : (places : List ℕ) (rows ys : List (List Value)) → IsOrder o.maintain_order (map (λ key. picks.row (with_key places key rows)) (distinct_rows (map (picked places) rows))) ys → IsOrder o.maintain_order (kept_rows o.keep places rows) ys)
+    (some : schema_at s.nodes i ≢ []) (distinct_names : has_distinct_names (schema_at s.nodes i) ≡ true)
     (kf : Fields) (keyed_by : named_fields (unwrap_or o.subset (names_of (schema_at s.nodes i))) (schema_at s.nodes i) ≡ Some kf) (some_key : unwrap_or o.subset (names_of (schema_at s.nodes i)) ≢ []) where
   abbrev own : Fields
   own = schema_at s.nodes i
@@ -229,19 +219,19 @@ module _ (F : Functions) (at : ℕ) (s : State) (i : Stream) (o : DistinctStep) 
   abbrev g0 : Fields
   g0 = kf ++ others_fields.0
 
-  abbrev first_named : Name → Named
-  first_named n = (n, Tree.aggregate Aggregation.first (Tree.column n))
+  abbrev picked_named : Name → Named
+  picked_named n = (n, Tree.aggregate a (Tree.column n))
 
-  firsts_are : kept_values o.keep others ++ [] ≡ map first_named others
-  firsts_are = append-nil (kept_values o.keep others) ∙ ap (λ a. map (λ n. (n, Tree.aggregate a (Tree.column n))) others) (first_value o.keep few)
+  picked_are : kept_values o.keep others ++ [] ≡ map picked_named others
+  picked_are = append-nil (kept_values o.keep others) ∙ ap (λ a. map (λ n. (n, Tree.aggregate a (Tree.column n))) others) value_is
 
   fields : fields_of (go.keys ++ go.aggregates) own ≡ Some g0
-  fields = ap (λ (es : List Named). fields_of (own_columns keys ++ es) own) firsts_are ∙ fields_both (own_columns keys) (map first_named others) own kf others_fields.0 (own_fields_of keys own kf keyed_by) (first_fields_of others own others_fields.0 others_fields.1)
+  fields = ap (λ (es : List Named). fields_of (own_columns keys ++ es) own) picked_are ∙ fields_both (own_columns keys) (map picked_named others) own kf others_fields.0 (own_fields_of keys own kf keyed_by) (picked_fields_of a picks others own others_fields.0 others_fields.1)
 
   plain : AllByRecursion (λ (e : Named). IsPlainReduction e.1) go.aggregates
-  plain = subst (AllByRecursion (λ (e : Named). IsPlainReduction e.1)) (sym firsts_are) (by others)
+  plain = subst (AllByRecursion (λ (e : Named). IsPlainReduction e.1)) (sym picked_are) (by others)
     where
-      by : (ns : List Name) → AllByRecursion (λ (e : Named). IsPlainReduction e.1) (map first_named ns)
+      by : (ns : List Name) → AllByRecursion (λ (e : Named). IsPlainReduction e.1) (map picked_named ns)
       by [] = tt
       by (n ∷ ns) = (tt, by ns)
 
@@ -292,7 +282,7 @@ module _ (F : Functions) (at : ℕ) (s : State) (i : Stream) (o : DistinctStep) 
 
   made_is : distinct_stream at o i s ≡ cut_stream at o.cut w.stream w.state
   made_is =
-      ap (λ (b : Bool). cond {A = Stream → State → Made} b (mapped_distinct at o) (grouped_distinct at o) i s) (and_false o.maintain_order (keeps_last o.keep) few)
+      ap (λ (b : Bool). cond {A = Stream → State → Made} b (mapped_distinct at o) (grouped_distinct at o) i s) few
       ∙ ap (λ (b : Bool). then_ordered (cond {A = Stream → State → Made} b (single_rows at o) (groups_with at [] o) i s)) many
       ∙ ap then_ordered one.1
 
@@ -345,8 +335,8 @@ module _ (F : Functions) (at : ℕ) (s : State) (i : Stream) (o : DistinctStep) 
     covers : (n : Name) → is_among n (names_of T.schema) ≡ true → is_among n (keys ++ others) ≡ true
     covers n h = covered n keys all (ap (λ (f : Fields). is_among n (names_of f)) (sym T_schema) ∙ h)
 
-    aggs_are : exprs_of go.aggregates ≡ map (λ n. Tree.aggregate Aggregation.first (Tree.column n)) others
-    aggs_are = ap exprs_of firsts_are ∙ map_again (λ (e : Named). e.1) first_named others
+    aggs_are : exprs_of go.aggregates ≡ map (λ n. Tree.aggregate a (Tree.column n)) others
+    aggs_are = ap exprs_of picked_are ∙ map_again (λ (e : Named). e.1) picked_named others
 
     out_T : out_schema F at (group_by go) (T ∷ []) ≡ g0
     out_T = ap (λ (f : Fields). unwrap_or (fields_of (go.keys ++ go.aggregates) f) []) T_schema ∙ ap (λ r. unwrap_or r []) fields
@@ -355,11 +345,11 @@ module _ (F : Functions) (at : ℕ) (s : State) (i : Stream) (o : DistinctStep) 
     same_places None = sym (ap (λ (f : Fields). places_in (names_of f) T.schema) (sym T_schema) ∙ all_places T.schema names_T)
     same_places (Some ns) = refl
 
-    firsts_kept : (rows : List (List Value)) → kept_rows uncut.keep (key_places uncut T.schema) rows ≡ first_rows (places_in keys T.schema) rows
-    firsts_kept rows = first_kept o.keep few many (key_places uncut T.schema) rows ∙ ap (λ ps. first_rows ps rows) (same_places o.subset)
+    keeps_T : (ys : List (List Value)) → IsOrder o.maintain_order (map (λ key. picks.row (with_key (places_in keys T.schema) key T.rows)) (distinct_rows (map (picked (places_in keys T.schema)) T.rows))) ys → IsOrder o.maintain_order (kept_rows uncut.keep (key_places uncut T.schema) T.rows) ys
+    keeps_T ys h = subst (λ ps. IsOrder o.maintain_order (kept_rows o.keep ps T.rows) ys) (sym (same_places o.subset)) (keeps (places_in keys T.schema) T.rows ys h)
 
     S_schema : S.schema ≡ g0
-    S_schema = stage.0.table.2.same_schema ∙ case_schema F at T keys others placed others_placed some_T wide_T names_T g0 named_g covers go keys_are aggs_are refl out_T uncut refl firsts_kept L stage.0.table.1
+    S_schema = stage.0.table.2.same_schema ∙ case_schema a picks F at T keys others placed others_placed some_T wide_T names_T g0 named_g covers go keys_are aggs_are refl out_T uncut keeps_T L stage.0.table.1
 
     has : schema_at gm.state.nodes gm.stream ≡ S.schema
     has = ap schema_or_none (last_node s.nodes one.0) ∙ one.2 ∙ sym S_schema
@@ -380,7 +370,7 @@ module _ (F : Functions) (at : ℕ) (s : State) (i : Stream) (o : DistinctStep) 
     wide_S =
         subst (λ n. AllByRecursion (λ (row : List Value). length row ≡ n) S.rows) count
         (subst (AllByRecursion (λ (row : List Value). length row ≡ length keys + length others)) (sym stage.0.table.2.same_rows)
-        (case_wide F at T keys others placed others_placed some_T wide_T names_T g0 named_g covers go keys_are aggs_are refl out_T uncut refl firsts_kept L stage.0.table.1))
+        (case_wide a picks F at T keys others placed others_placed some_T wide_T names_T g0 named_g covers go keys_are aggs_are refl out_T uncut keeps_T L stage.0.table.1))
 
     named : IsNamed F at all gm.stream gm.state kept.there tables T.schema has named_so names_T (ap names_of T_schema) wide_S w
     named = is_named F at all gm.stream gm.state kept.there tables T.schema has named_so names_T (ap names_of T_schema) wide_S chosen
@@ -392,10 +382,10 @@ module _ (F : Functions) (at : ℕ) (s : State) (i : Stream) (o : DistinctStep) 
     Large' = IsLargeCase F at (distinct uncut) (T ∷ []) ⊎ SomeIsLarge (T ∷ [])
 
     bad : (c : Cause) → IsCaseBrokenBy F at (group_by go) (T ∷ []) c → Bad c
-    bad = same_causes F at T keys others placed others_placed some_T wide_T names_T g0 named_g covers go keys_are aggs_are refl out_T uncut refl firsts_kept
+    bad = same_causes a picks F at T keys others placed others_placed some_T wide_T names_T g0 named_g covers go keys_are aggs_are refl out_T uncut keeps_T
 
     first_tells : Tells F tables Bad Large' s.nodes gm.state.nodes
-    first_tells = tells_step F tables Bad Large' at (group_by go) (T ∷ []) s.nodes gm.state.nodes stage.1 bad (same_sizes F at T keys others placed others_placed some_T wide_T names_T g0 named_g covers go keys_are aggs_are refl out_T uncut refl firsts_kept)
+    first_tells = tells_step F tables Bad Large' at (group_by go) (T ∷ []) s.nodes gm.state.nodes stage.1 bad (same_sizes a picks F at T keys others placed others_placed some_T wide_T names_T g0 named_g covers go keys_are aggs_are refl out_T uncut keeps_T)
 
     S_small : max_rows < length S.rows → Large'
     S_small long = first_tells.sizes gm.stream.0 (omega arith) kept.there (inl (S, inl refl, long))
@@ -408,7 +398,7 @@ module _ (F : Functions) (at : ℕ) (s : State) (i : Stream) (o : DistinctStep) 
 
     means : EndsAsStep F at (distinct uncut) (T ∷ []) (tables w.stream.0) × ShowsOnlyStep F s.nodes w.state.nodes tables at (distinct uncut) (T ∷ [])
     means =
-        let k = of_case F at T keys others placed others_placed some_T wide_T names_T g0 named_g covers go keys_are aggs_are refl out_T uncut refl firsts_kept L stage.0.table.1 in
+        let k = of_case a picks F at T keys others placed others_placed some_T wide_T names_T g0 named_g covers go keys_are aggs_are refl out_T uncut keeps_T L stage.0.table.1 in
         let told = tells_then F tables Bad Large' s.nodes gm.state.nodes w.state.nodes projected.adds.more projected.adds.nodes first_tells last_tells in
         let places : places_in all S.schema ≡ places_in (names_of T.schema) g0 = λ j. places_in (names_of (sym T_schema j)) (S_schema j) in (
           record {

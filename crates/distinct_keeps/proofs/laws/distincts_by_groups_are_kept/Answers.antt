@@ -1,5 +1,5 @@
-use Rattle.distinct_keeps.proofs.Streams.{distincts_keep}
+use Rattle.distinct_keeps.proofs.Firsts.{first_distincts_keep}
 use Rattle.distinct_keeps.proofs.laws.distincts_by_groups_are_kept.Goals as goal
 
 pub returns : goal.returns
-returns c = distincts_keep
+returns c = first_distincts_keep

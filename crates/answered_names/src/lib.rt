@@ -1,0 +1,4 @@
+//! Laws of the names that calls for expressions answer.
+#![tactic(auto)]
+
+pub mod laws;

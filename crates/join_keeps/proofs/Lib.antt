@@ -1,0 +1,9 @@
+pub mod Pairs
+pub mod Lookups
+pub mod Sides
+pub mod Rows
+pub mod Turned
+pub mod Tables
+pub mod Alike
+pub mod Names
+pub mod Joins
