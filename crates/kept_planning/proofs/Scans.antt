@@ -13,7 +13,7 @@ use Rattle.ps_plan.specs.Graph.{EachReached}
 use Rattle.ps_plan.specs.Plans.{Plan}
 use Rattle.ps_plan.specs.declared.ir.IR.{IR}
 use Rattle.ps_plan.specs.declared.ir.IR.TheVariants as entry
-use Rattle.rule_nodes.specs.Good.{HoldsTable}
+use Rattle.rule_parts.specs.Good.{HoldsTable}
 use Rattle.kept_planning.specs.Tables.{HoldsFitTable}
 
 -- those of the entries before one

@@ -29,7 +29,7 @@ use Rattle.ps_rules.specs.Names.{IsKnown, Knows, Names, temporary}
 use Rattle.plan_rules.specs.Plans.{lowering_of}
 use Rattle.arena_keeps.proofs.Parts.{Entered, along, entered, named_inputs, trees_at}
 use Rattle.arena_keeps.proofs.Stored.{stored, whole_stands}
-use Rattle.rule_nodes.specs.Good.{HoldsTable, IsGoodStep, KnowsNames, TakesInputs}
+use Rattle.rule_parts.specs.Good.{HoldsTable, IsGoodStep, KnowsNames, TakesInputs}
 use Rattle.rule_soundness.specs.Plans.{AreGoodPlans, IsGoodPlan, KnowPlans, KnowsPlan}
 use Rattle.rule_soundness.proofs.Plans.{plans_stay_sound}
 
@@ -99,7 +99,7 @@ module _ (F : Functions) (plan : Plan) (valid : IsValid F plan) where
         let e = entered F plan valid n reached in
         subst (IsGoodPlan F) (sym e.is) (good_step n reached e holds, all_good (entry_inputs e.entry) (λ m c. all m (named_inputs F plan valid n e.entry e.there m c)))
 
-    good_plan : IsGoodPlan F (tree_of plan plan.root.0)
+    pub good_plan : IsGoodPlan F (tree_of plan plan.root.0)
     good_plan = along F plan valid (λ n. IsGoodPlan F (tree_of plan n)) good_node plan.root.0 here
 
   module _ (names : Names) (knows : Knows names (IsNameUnder F plan)) where
@@ -119,7 +119,7 @@ module _ (F : Functions) (plan : Plan) (valid : IsValid F plan) where
         let own = subst (λ (t : PlanTree). KnowsNames names (tree_schema F t)) e.is (names_known n reached) in
         subst (KnowsPlan F names) (sym e.is) (own, all_known (entry_inputs e.entry) (λ m c. all m (named_inputs F plan valid n e.entry e.there m c)))
 
-    known_plan : KnowsPlan F names (tree_of plan plan.root.0)
+    pub known_plan : KnowsPlan F names (tree_of plan plan.root.0)
     known_plan = along F plan valid (λ n. KnowsPlan F names (tree_of plan n)) known_node plan.root.0 here
 
   pub plan_nodes_sound : EachReached HoldsTable plan → (names : Names) → Knows names (IsNameUnder F plan) → let l = lowering_of F names (tree_of plan plan.root.0) in l.progress.state.names.next ≤ 2 ^ 64 → IsSoundButForReaders F l.progress.state.nodes

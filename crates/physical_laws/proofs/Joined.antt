@@ -19,7 +19,7 @@ use Rattle.rule_ports.proofs.Plans.{sunk_reads, sunk_sink, sunk_there}
 use Rattle.physical_laws.proofs.Fed.{fed_plan, sunk_plan}
 use Rattle.physical_laws.proofs.Good.{plan_nodes_sound}
 use Rattle.physical_laws.specs.Premises.{KeepsSteps}
-use Rattle.rule_nodes.specs.Good.{HoldsTable}
+use Rattle.rule_parts.specs.Good.{HoldsTable}
 
 -- laws of multiplexers
 abbrev pub OneReader : Type 0
@@ -56,8 +56,8 @@ module _ (F : Functions) (plan : Plan) (shape : Shape) (valid : IsValid F plan) 
   pub is_lowering : IsLawful F → EachReached HoldsTable plan → KeepsSteps F plan → IsLoweringOf F plan shape (length shape - 1)
   is_lowering lawful holds kept =
       let s = nodes_sound holds in
-      let l = valid_lowered F plan p.names lawful valid (kept p.names (p.in_use, p.none_given)) s in
+      let l = valid_lowered F plan p.names lawful valid (kept p.names (p.in_use, p.none_given) holds p.in_range) s in
       subst (λ (x : Shape). IsLoweringOf F plan x (length x - 1)) (sym p.given) (still_lowered F nodes low.stream.0 there reads s plan l)
 
   pub covered_lowering : IsLawful F → EachReached HoldsTable plan → IsCovered F (tree_of plan plan.root.0) → IsLoweringOf F plan shape (length shape - 1)
-  covered_lowering lawful holds covered = is_lowering lawful holds (λ names used. covered_kept F (stored F plan valid) (tree_of plan plan.root.0) (whole_stands F plan valid) covered names)
+  covered_lowering lawful holds covered = is_lowering lawful holds (λ names used holds small. covered_kept F (stored F plan valid) (tree_of plan plan.root.0) (whole_stands F plan valid) covered names)

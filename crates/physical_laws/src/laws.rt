@@ -10,7 +10,7 @@ ghost use Rattle.ps_plan.specs.Refusals.{IsValid};
 ghost use Rattle.arena_keeps.specs.Covered.{IsCovered};
 ghost use Rattle.physical_plans.specs.PhysicalPlans.{IsPhysicalPlan};
 ghost use Rattle.physical_laws.specs.Premises.{KeepsSteps};
-ghost use Rattle.rule_nodes.specs.Good.{HoldsTable};
+ghost use Rattle.rule_parts.specs.Good.{HoldsTable};
 
 use multiplexer_laws::laws::{each_port_has_one_reader, sound_nodes_are_shared_soundly};
 

@@ -15,12 +15,12 @@ use Rattle.ps_plan.specs.Lowering.{Cached}
 use Rattle.ps_rules.specs.Names.{Names}
 use Rattle.ps_rules.specs.Slots.{Stream}
 use Rattle.ps_shares.proofs.Fresh.{Grown, grown_same, grown_then}
-use Rattle.plan_laws.specs.Laws.{HaveStored, IsStored, StandsOver}
 use Rattle.plan_rules.specs.Nodes.{step_stream}
 use Rattle.plan_rules.specs.Plans.{LoweredPlan, LoweredPlans, Progress, cache_stream, first_plan, lower_plan, lower_plans, node_stream, nothing_yet, stream_of_cache, stream_over}
-use Rattle.rule_nodes.specs.Good.{AreStreams, IsGoodStep, IsStream, KnowsNames}
-use Rattle.rule_nodes.proofs.Growing.{step_grows}
-use Rattle.rule_nodes.proofs.Standing.{stream_later}
+use Rattle.plan_laws.specs.Laws.{HaveStored, IsStored, StandsOver}
+use Rattle.rule_parts.specs.Good.{AreStreams, IsGoodStep, IsStream, KnowsNames}
+use Rattle.rule_parts.proofs.Growing.{step_grows}
+use Rattle.rule_parts.proofs.Standing.{stream_later}
 use Rattle.rule_nodes.proofs.Steps.{step_makes}
 use Rattle.rule_soundness.specs.Plans.{AreGoodPlans, IsGoodPlan, KnowPlans, KnowsPlan, PlansStaySound}
 
@@ -36,11 +36,11 @@ streams_later a b more (i ∷ is) (s ∷ ss) e h = (stream_later a b more i s e 
 module _ (F : Functions) where
   -- names that were known
   mutual
-    known_later : (a b : Names) (t : PlanTree) → Grown a b → KnowsPlan F a t → KnowsPlan F b t
+    pub known_later : (a b : Names) (t : PlanTree) → Grown a b → KnowsPlan F a t → KnowsPlan F b t
     known_later a b (node at step below) g h = ((λ n q. g.0 n (h.0 n q)), all_known_later a b below g h.1)
     known_later a b missing g h = tt
 
-    all_known_later : (a b : Names) (ts : PlanTrees) → Grown a b → KnowPlans F a ts → KnowPlans F b ts
+    pub all_known_later : (a b : Names) (ts : PlanTrees) → Grown a b → KnowPlans F a ts → KnowPlans F b ts
     all_known_later a b no_trees g h = tt
     all_known_later a b (tree t ts) g h = (known_later a b t g h.0, all_known_later a b ts g h.1)
 
@@ -48,7 +48,7 @@ module _ (F : Functions) where
   schema_known names (node at step below) h = h.0
   schema_known names missing h = λ n q. cc
 
-  schemas_known : (names : Names) (ts : PlanTrees) → KnowPlans F names ts → AllByRecursion (KnowsNames names) (tree_schemas F ts)
+  pub schemas_known : (names : Names) (ts : PlanTrees) → KnowPlans F names ts → AllByRecursion (KnowsNames names) (tree_schemas F ts)
   schemas_known names no_trees h = tt
   schemas_known names (tree t ts) h = (schema_known names t h.0, schemas_known names ts h.1)
 
@@ -80,11 +80,11 @@ module _ (F : Functions) where
   node_grows at below schema p g (left_out what) = over_grows at (left_out what) schema below p g
 
   mutual
-    plan_grows : (t : PlanTree) (p : Progress) → Grown p.state.names (lower_plan F t p).progress.state.names
+    pub plan_grows : (t : PlanTree) (p : Progress) → Grown p.state.names (lower_plan F t p).progress.state.names
     plan_grows (node at step below) p = node_grows at below (tree_schema F (node at step below)) p (plans_grow below p) step
     plan_grows missing p = grown_same p.state.names
 
-    plans_grow : (ts : PlanTrees) (p : Progress) → Grown p.state.names (lower_plans F ts p).progress.state.names
+    pub plans_grow : (ts : PlanTrees) (p : Progress) → Grown p.state.names (lower_plans F ts p).progress.state.names
     plans_grow no_trees p = grown_same p.state.names
     plans_grow (tree t ts) p =
         let low = lower_plan F t p in
@@ -92,7 +92,7 @@ module _ (F : Functions) where
 
   module _ (stored : ℕ → PlanTree) where
     -- the streams of cache ids have the schemas of what is stored for these
-    abbrev AllCached : Shape → List Cached → Type 0
+    abbrev pub AllCached : Shape → List Cached → Type 0
     AllCached nodes cs = AllByRecursion (λ (c : Cached). IsStream nodes (c.from, 0) (tree_schema F (stored c.id))) cs
 
     cached_later : (a b more : Shape) (cs : List Cached) → b ≡ a ++ more → AllCached a cs → AllCached b cs
@@ -111,21 +111,24 @@ module _ (F : Functions) where
         by false q e rest = rest e
 
     -- what stands is sound
-    record IsGoodProgress (p : Progress) : Type 0 where
-      sound : IsSoundButForReaders F p.state.nodes
-      cached : AllCached p.state.nodes p.cached
+    pub record IsGoodProgress (p : Progress) : Type 0 where
+      pub sound : IsSoundButForReaders F p.state.nodes
+      pub cached : AllCached p.state.nodes p.cached
 
-    record Lowers (p : Progress) (l : LoweredPlan) (out : Fields) : Type 0 where
-      good : IsGoodProgress l.progress
-      stream : IsStream l.progress.state.nodes l.stream out
-      more : Shape
-      nodes : l.progress.state.nodes ≡ p.state.nodes ++ more
+    pub record Lowers (p : Progress) (l : LoweredPlan) (out : Fields) : Type 0 where
+      pub good : IsGoodProgress l.progress
+      pub stream : IsStream l.progress.state.nodes l.stream out
+      pub more : Shape
+      pub nodes : l.progress.state.nodes ≡ p.state.nodes ++ more
 
-    record LowersAll (p : Progress) (l : LoweredPlans) (outs : List Fields) : Type 0 where
-      good : IsGoodProgress l.progress
-      streams : AreStreams l.progress.state.nodes l.streams outs
-      more : Shape
-      nodes : l.progress.state.nodes ≡ p.state.nodes ++ more
+    pub record LowersAll (p : Progress) (l : LoweredPlans) (outs : List Fields) : Type 0 where
+      pub good : IsGoodProgress l.progress
+      pub streams : AreStreams l.progress.state.nodes l.streams outs
+      pub more : Shape
+      pub nodes : l.progress.state.nodes ≡ p.state.nodes ++ more
+
+    pub nothing_good : (names : Names) → IsGoodProgress (nothing_yet names)
+    nothing_good names = record { sound = none_sound F; cached = tt }
 
     -- a step over its lowered inputs
     over_lowers : (at : ℕ) (step : Step) (below : PlanTrees) (p : Progress) → IsGoodStep F step (tree_schemas F below) → AllByRecursion (KnowsNames p.state.names) (schema_or_empty F step (tree_schemas F below) ∷ tree_schemas F below)
@@ -201,11 +204,11 @@ module _ (F : Functions) where
     node_lowers at below p g (left_out what) = λ good is known under. absurd good.inputs
 
     mutual
-      plan_lowers : (t : PlanTree) → StandsOver stored t → IsGoodPlan F t → (p : Progress) → IsGoodProgress p → KnowsPlan F p.state.names t → (lower_plan F t p).progress.state.names.next ≤ 2 ^ 64 → Lowers p (lower_plan F t p) (tree_schema F t)
+      pub plan_lowers : (t : PlanTree) → StandsOver stored t → IsGoodPlan F t → (p : Progress) → IsGoodProgress p → KnowsPlan F p.state.names t → (lower_plan F t p).progress.state.names.next ≤ 2 ^ 64 → Lowers p (lower_plan F t p) (tree_schema F t)
       plan_lowers (node at step below) stands good p g known small = node_lowers at below p g step good.0 stands.0 (known.0, schemas_known p.state.names below known.1) (λ le. plans_lower below stands.1 good.1 p g known.1 le) small
       plan_lowers missing stands good p g known small = absurd good
 
-      plans_lower : (ts : PlanTrees) → HaveStored stored ts → AreGoodPlans F ts → (p : Progress) → IsGoodProgress p → KnowPlans F p.state.names ts → (lower_plans F ts p).progress.state.names.next ≤ 2 ^ 64 → LowersAll p (lower_plans F ts p) (tree_schemas F ts)
+      pub plans_lower : (ts : PlanTrees) → HaveStored stored ts → AreGoodPlans F ts → (p : Progress) → IsGoodProgress p → KnowPlans F p.state.names ts → (lower_plans F ts p).progress.state.names.next ≤ 2 ^ 64 → LowersAll p (lower_plans F ts p) (tree_schemas F ts)
       plans_lower no_trees stands good p g known small = record { good = g; streams = tt; more = []; nodes = sym (append-nil p.state.nodes) }
       plans_lower (tree t ts) stands good p g known small =
           let low = lower_plan F t p in
@@ -222,4 +225,4 @@ module _ (F : Functions) where
           }
 
 pub plans_stay_sound : PlansStaySound
-plans_stay_sound F stored names t stands good known small = (plan_lowers F stored t stands good (nothing_yet names) (record { sound = none_sound F; cached = tt }) known small).good.sound
+plans_stay_sound F stored names t stands good known small = (plan_lowers F stored t stands good (nothing_yet names) (nothing_good F stored names) known small).good.sound

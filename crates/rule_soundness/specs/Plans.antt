@@ -5,9 +5,9 @@ use Rattle.ps_meaning.specs.PlanTrees.{PlanTree, PlanTrees, missing, no_trees, n
 use Rattle.ps_meaning.specs.Schemas.{tree_schema, tree_schemas}
 use Rattle.ps_meaning.specs.Sound.{IsSoundButForReaders}
 use Rattle.ps_rules.specs.Names.{Names}
-use Rattle.plan_laws.specs.Laws.{StandsOver}
 use Rattle.plan_rules.specs.Plans.{lowering_of}
-use Rattle.rule_nodes.specs.Good.{IsGoodStep, KnowsNames}
+use Rattle.plan_laws.specs.Laws.{StandsOver}
+use Rattle.rule_parts.specs.Good.{IsGoodStep, KnowsNames}
 
 abbrev mutual
   -- nothing is missing, and no rule refuses a step over the schemas of its inputs
