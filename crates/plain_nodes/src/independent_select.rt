@@ -32,6 +32,13 @@ impl InputIndependentSelectNode {
         self.selectors.as_slice()
     }
 
+    /// How many of its morsels were claimed.
+    pub fn sent(&self) -> usize
+        ensures { result ≡ self.now.sent }
+    {
+        self.sent
+    }
+
     /// Its morsel is claimed.
     pub fn claim(&mut self)
         requires { self.old.sent + 1 < 2 ^ 64 }

@@ -196,7 +196,7 @@ impl InMemoryJoinNode {
     ///
     /// Fails, at no node in particular, by a fault of its keys, by `Rows` where a column of these or what the join gives has
     /// too many rows, or for want of memory.
-    pub(crate) fn update(
+    pub fn update(
         &mut self,
         alloc: Global,
         recv: &mut [PortState],

@@ -186,7 +186,7 @@ impl InMemoryMapNode {
     ///
     /// Fails, at no node in particular, by a fault of its map, by `Rows` where a column has too many rows, or for want of
     /// memory.
-    pub(crate) fn update(
+    pub fn update(
         &mut self,
         alloc: Global,
         recv: &mut [PortState],
