@@ -1,3 +1,1 @@
-mod Columns
 mod Stores
-mod Updated

@@ -4,7 +4,7 @@ use Rattle.std.proofs.lemmas.List.{length-replicate}
 use Rattle.std.specs.Prelude.{◌+◌, replicate, slice_index, slice_set}
 use Rattle.plain_nodes.specs.Seen.{IsNewZip}
 use Rattle.plain_nodes.specs.declared.zip.ZipNode.{ZipNode}
-use Rattle.join_flow_trials.specs.Stores.{HasStores}
+use Rattle.turn_scripts.specs.Stores.{HasStores}
 
 -- a new one has a store and a head for each input, and nothing came
 pub new_stores : (extend : Bool) (inputs k : ℕ) (z : ZipNode) → IsNewZip extend inputs z → inputs ≡ k → 1 ≤ k → HasStores k z

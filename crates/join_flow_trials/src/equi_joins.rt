@@ -1,26 +1,13 @@
 // Equi joins: what they answer to all states of their left input, of their right one and of their output, in each stage.
 ghost use Rattle.std.specs.Prelude.{◌≡◌, IfOk};
 
-use crate::keys::{column, schema};
-use crate::scripts::{Turns, answers, follow};
 use node_states::stage::Stage;
 use plain_nodes::equi_join::EquiJoinNode;
-use ps_frame::refusal::PolarsResult;
 use ps_meaning::options::{JoinArgs, JoinType, JoinValidation};
-use ps_ports::port_state::PortState;
 use std::alloc::Global;
 use std::test::Fail;
-
-impl Turns for EquiJoinNode {
-    ghost HasInputs = { λ n inputs. inputs ≡ 2 };
-
-    ghost claimed = { λ n. n.sent };
-
-    fn turn(&mut self, recv: &mut [PortState], send: &mut [PortState]) -> PolarsResult<()> {
-        self.update(recv, send);
-        Ok(())
-    }
-}
+use turn_scripts::fixtures::{column, schema};
+use turn_scripts::script::{answers, follow};
 
 // A new one. While its right input isn't done it builds: that gets ready, the left one and the output blocked. Once it is
 // done the left input is passed. Once the output is done all are.

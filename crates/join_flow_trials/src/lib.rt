@@ -5,8 +5,4 @@
 #[cfg(test)]
 mod equi_joins;
 #[cfg(test)]
-mod keys;
-#[cfg(test)]
-mod scripts;
-#[cfg(test)]
 mod zips;

@@ -1,25 +1,13 @@
 // Zips: what they answer to all states of two inputs and their output, by what their heads have.
 ghost use Rattle.std.specs.Prelude.{◌≡◌, ◌∷◌, [], IfOk, length};
-ghost use Rattle.join_flow_trials.specs.Stores.{HasStores};
+ghost use Rattle.turn_scripts.specs.Stores.{HasStores};
 
-use crate::keys::schema;
-use crate::scripts::{Turns, answers, fails, follow};
 use plain_nodes::zip::ZipNode;
-use ps_frame::refusal::PolarsResult;
 use ps_frame::schema::Schema;
-use ps_ports::port_state::PortState;
 use std::alloc::Global;
 use std::test::Fail;
-
-impl Turns for ZipNode {
-    ghost HasInputs = { λ n inputs. HasStores inputs n };
-
-    ghost claimed = { λ n. n.booked };
-
-    fn turn(&mut self, recv: &mut [PortState], send: &mut [PortState]) -> PolarsResult<()> {
-        self.update(recv, send)
-    }
-}
+use turn_scripts::fixtures::schema;
+use turn_scripts::script::{answers, fails, follow};
 
 // Where its heads have rows. All are blocked where an input is; else the output gets ready, and the inputs are blocked where
 // it is. Once the output is done all are.
