@@ -1,0 +1,4 @@
+mod Counts
+mod Rules
+mod Fitting
+mod Turned

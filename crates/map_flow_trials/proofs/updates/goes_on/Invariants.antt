@@ -1,0 +1,6 @@
+-- The node after the updates so far.
+use Rattle.map_flow_trials.specs.Shown.{CanTurn}
+use Rattle.map_flow_trials.proofs.updates.goes_on.Given as goal
+
+abbrev pub invariant-loop-given : goal.invariant-loop-given
+invariant-loop-given g l = CanTurn (g.N.Turns.shown l.node)
