@@ -15,7 +15,7 @@ use ps_graph::key::{GraphNodeKey, LogicalPipeKey};
 use world_pipes::Pipes;
 
 /// Whether what leaves a node in the open phase is dropped.
-fn is_cut_off<N>(graph: &Graph<N>, pipes: &Pipes, node: u32) -> bool
+pub fn is_cut_off<N>(graph: &Graph<N>, pipes: &Pipes, node: u32) -> bool
     ensures { (s : Setting) (ps : List Pipe) → AreShown s ps pipes.now → IsLinked graph.now → wires_of graph.now.pipes.slots ≡ map (λ (p : Pipe). p.wire) ps → HasOneOutput node ps → result ≡ is_cut node ps }
 {
     match output_key(graph, node) {

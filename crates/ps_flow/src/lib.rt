@@ -11,6 +11,7 @@ pub mod marks;
 mod opening;
 mod output;
 mod outputs;
+mod parts;
 pub mod piece_node;
 mod pulling;
 pub mod run_node;
@@ -18,7 +19,9 @@ pub mod store_node;
 pub mod world;
 
 pub use claim_node::{ClaimNode, Claimed, Seat};
+pub use drops::is_cut_off;
 pub use marks::{Mark, Marks};
+pub use outputs::output_key;
 pub use piece_node::PieceNode;
 pub use run_node::RunNode;
 pub use store_node::StoreNode;

@@ -40,6 +40,13 @@ impl Marks {
         Ok(Marks { list })
     }
 
+    /// The marks, in the order of the graph.
+    pub fn as_slice(&self) -> &[Mark]
+        ensures { result.now ≡ self.now.list.items }
+    {
+        self.list.as_slice()
+    }
+
     /// A phase opens, with these nodes alone.
     pub fn open(&mut self, keys: &[GraphNodeKey])
         ensures { self.new.list.items ≡ phase_marks (node_numbers keys.now) 0 self.old.list.items }

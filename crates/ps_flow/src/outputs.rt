@@ -17,7 +17,7 @@ use ps_graph::key::{GraphNodeKey, LogicalPipeKey};
 use world_pipes::Pipes;
 
 /// The key of the first pipe out of a node, if there is one.
-pub(crate) fn output_key<N>(graph: &Graph<N>, node: u32) -> Option<LogicalPipeKey>
+pub fn output_key<N>(graph: &Graph<N>, node: u32) -> Option<LogicalPipeKey>
     ensures key { IfSome result (λ key. (ps : List Pipe) → IsLinked graph.now → wires_of graph.now.pipes.slots ≡ map (λ (p : Pipe). p.wire) ps → HasOneOutput node ps → AreKeysOf (λ p. nat_eq p.wire.sender node) (key ∷ []) ps) }
     ensures none { IfNone result ((ps : List Pipe) (p : Pipe) → IsLinked graph.now → wires_of graph.now.pipes.slots ≡ map (λ (p : Pipe). p.wire) ps → Contains ps p → nat_eq p.wire.sender node ≡ false) }
 {

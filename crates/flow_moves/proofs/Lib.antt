@@ -1,0 +1,11 @@
+mod AtWork
+mod Between
+mod Looking
+mod Moves
+mod Owning
+mod Parts
+mod OnePlace
+mod Possible
+mod Takes
+mod InputsOver
+mod Whole

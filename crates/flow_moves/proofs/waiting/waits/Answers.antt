@@ -1,0 +1,15 @@
+-- By whether it is in the phase.
+use Rattle.std.proofs.Common.{◌≡◌, ◌∙◌, false, sym, ap, true}
+use Rattle.std.specs.Prelude.{◌&&◌}
+use Rattle.flow_moves.proofs.waiting.waits.Goals as goal
+use Rattle.ps_world.specs.World.{has_next}
+
+pub returns-then-in_phase : goal.returns-then-in_phase
+returns-then-in_phase c = λ s ps p shown at.
+    let here : true ≡ p.in_phase = sym c.if-in_phase.true ∙ c.in_phase.ensures s ps p shown at in
+    ap (λ b. b && has_next p) (sym here) ∙ sym (c.has_next.ensures s ps p shown at)
+
+pub returns-else-in_phase : goal.returns-else-in_phase
+returns-else-in_phase c = λ s ps p shown at.
+    let here : false ≡ p.in_phase = sym c.if-in_phase.false ∙ c.in_phase.ensures s ps p shown at in
+    ap (λ b. b && has_next p) (sym here)
