@@ -1,0 +1,6 @@
+mod Counted
+mod Held
+mod KindClaims
+mod MorselClaims
+mod OwnClaims
+mod Moving
