@@ -12,7 +12,7 @@ use Rattle.ps_meaning.specs.StepRefusals.{NamesMissingFunction, Refusal, TypingR
 use Rattle.ps_meaning.specs.Steps.{DistinctStep, GroupStep, Named, SortStep, Step, distinct, group_by, key_trees, named_trees, select, sort}
 use Rattle.ps_meaning.specs.declared.map.MapKind.{MapKind}
 use Rattle.ps_meaning.specs.declared.map.MapKind.TheVariants as kind
-use Rattle.ps_node_eval.specs.Ready.{IsReady, IsReadyFor, frame_schemas}
+use Rattle.ready_steps.specs.Ready.{IsReady, IsReadyFor, frame_schemas}
 use Rattle.ps_owned_maps.specs.Owned.{MapParts, is_function, step_of}
 
 module _ (F G : Functions) (ss : List Fields) where

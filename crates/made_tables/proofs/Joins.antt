@@ -17,7 +17,7 @@ use Rattle.ps_meaning.specs.Schemas.{join_schema}
 use Rattle.ps_meaning.specs.Sound.{HasFieldsOf}
 use Rattle.ps_meaning.specs.Steps.{JoinStep, join, key_trees}
 use Rattle.ps_meaning.specs.declared.options.ExprIR.{ExprIR}
-use Rattle.ps_node_eval.proofs.JoinSteps.{keys-paired, left-typed, right-typed}
+use Rattle.ready_steps.proofs.JoinSteps.{keys-paired, left-typed, right-typed}
 use Rattle.ps_validate.specs.Nodes.{GivesSchema}
 use Rattle.ps_zip.specs.Zips.{AreTypedOver, expr_kinds}
 

@@ -5,7 +5,7 @@ ghost use Rattle.made_tables.specs.Made.{MayBreak};
 ghost use Rattle.bare_nodes.specs.Uncalled.{no_functions};
 ghost use Rattle.ps_frame.specs.Tables.{Fields, whole};
 ghost use Rattle.ps_meaning.specs.Shape.{in_memory_map};
-ghost use Rattle.ps_node_eval.specs.Ready.{IsReady, IsReadyFor};
+ghost use Rattle.ready_steps.specs.Ready.{IsReady, IsReadyFor};
 ghost use Rattle.ps_owned_maps.specs.Owned.{is_function, step_of};
 ghost use Rattle.ps_turns.specs.Results.{IsMade};
 

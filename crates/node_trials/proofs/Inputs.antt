@@ -14,7 +14,7 @@ use Rattle.ps_plan.specs.declared.ir.IR.{IR}
 use Rattle.ps_walks.specs.Accepted.{NodeSchemas, schemas_at}
 use Rattle.ps_walks.specs.Fit.{plan_schemas}
 use Rattle.ps_node_eval.specs.Nodes.{FitInputs}
-use Rattle.ps_node_eval.specs.Ready.{frame_schemas}
+use Rattle.ready_steps.specs.Ready.{frame_schemas}
 
 -- one of several nodes
 abbrev pub node_at : List Node → ℕ → Node

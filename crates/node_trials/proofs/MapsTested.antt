@@ -22,7 +22,7 @@ use Rattle.ps_walks.specs.Accepted.{schemas_at}
 use Rattle.ps_walks.specs.Fit.{plan_schemas}
 use Rattle.ps_node_eval.specs.Nodes.{FitInputs}
 use Rattle.ps_owned_maps.specs.Owned.{MapParts, step_of}
-use Rattle.ps_node_eval.specs.Ready.{IsReadyFor, frame_schemas}
+use Rattle.ready_steps.specs.Ready.{IsReadyFor, frame_schemas}
 use Rattle.node_trials.specs.MapsTested.{tested_entry, tested_nodes}
 use Rattle.ps_node_eval.proofs.NodeSteps.{at-entry, node-ready}
 

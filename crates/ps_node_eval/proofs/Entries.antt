@@ -12,8 +12,8 @@ use Rattle.ps_meaning.specs.Steps.{Step}
 use Rattle.ps_plan.specs.Entries.{entry_inputs, entry_step}
 use Rattle.ps_plan.specs.declared.ir.IR.{IR}
 use Rattle.ps_plan.specs.declared.ir.IR.TheVariants as entry
-use Rattle.ps_node_eval.specs.Ready.{IsReady, IsReadyFor}
-use Rattle.ps_node_eval.proofs.OverInputs.{Answer}
+use Rattle.ready_steps.specs.Ready.{IsReady, IsReadyFor}
+use Rattle.ready_steps.proofs.OverInputs.{Answer}
 
 module _ (F : Functions) (f : Node → Tree) (e x : IR) (fs : List Frame) (is : e ≡ x) where
   pub ready-for : (s : Fields) → IsReadyFor F (entry_step f e) fs s → IsReadyFor F (entry_step f x) fs s

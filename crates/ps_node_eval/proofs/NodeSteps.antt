@@ -19,8 +19,8 @@ use Rattle.ps_walks.proofs.Fits.{step-fits}
 use Rattle.ps_walks.specs.Accepted.{NodeSchemas, schemas_at}
 use Rattle.ps_walks.specs.Fit.{HasSchemas, IsFit, plan_schemas}
 use Rattle.ps_node_eval.specs.Nodes.{FitInputs, NodeFaults, NodeGives}
-use Rattle.ps_node_eval.specs.Ready.{IsReadyFor, frame_schemas}
-use Rattle.ps_node_eval.proofs.OverInputs.{Answer}
+use Rattle.ready_steps.specs.Ready.{IsReadyFor, frame_schemas}
+use Rattle.ready_steps.proofs.OverInputs.{Answer}
 
 -- what holds of the entry that stands there
 pub of-entry : {A : Type 0} (P : A → Type 0) (o : Option A) (x : A) → o ≡ Some x → IfSome o P → P x

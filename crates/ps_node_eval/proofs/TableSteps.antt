@@ -15,8 +15,8 @@ use Rattle.ps_meaning.specs.Schemas.{first_schema, joined_schemas, named_fields}
 use Rattle.ps_meaning.specs.Steps.{Cut, Name, function_step, hconcat, project, row_index, scan, slice, union, user}
 use Rattle.ps_meaning.specs.declared.options.FunctionIR.{FunctionIR}
 use Rattle.ps_meaning.specs.declared.options.FunctionIR.TheVariants as call
-use Rattle.ps_node_eval.specs.Ready.{IsReady, IsReadyFor, frame_schemas}
-use Rattle.ps_node_eval.proofs.OverInputs.{Answer, gives-at, no-inputs}
+use Rattle.ready_steps.specs.Ready.{IsReady, IsReadyFor, frame_schemas}
+use Rattle.ready_steps.proofs.OverInputs.{Answer, gives-at, no-inputs}
 
 pub scan-found : (d : Frame) (ns : List Name) (fs : List Frame) (s : Fields) → IsReady (scan d (Some ns)) fs s → named_fields ns d.schema ≡ Some s
 scan-found d ns fs s r = r.1.schema

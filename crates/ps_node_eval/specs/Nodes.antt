@@ -9,7 +9,7 @@ use Rattle.ps_plan.specs.Plans.{Plan}
 use Rattle.ps_plan.specs.Entries.{entry_inputs, entry_step}
 use Rattle.ps_walks.specs.Accepted.{schemas_at}
 use Rattle.ps_walks.specs.Fit.{plan_schemas}
-use Rattle.ps_node_eval.specs.Ready.{frame_schemas}
+use Rattle.ready_steps.specs.Ready.{frame_schemas}
 
 -- the tables fit the inputs of the node
 abbrev pub FitInputs : Functions → Plan → ℕ → List Frame → Type 0

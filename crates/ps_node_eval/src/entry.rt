@@ -3,7 +3,7 @@ ghost use Rattle.std.specs.Prelude.{◌≡◌, IfErr, IfOk, length};
 ghost use Rattle.ps_frame.specs.Trees.{tree_at};
 ghost use Rattle.ps_meaning.specs.Nodes.{GivesFrame, MayFault};
 ghost use Rattle.ps_plan.specs.Entries.{entry_inputs, entry_step};
-ghost use Rattle.ps_node_eval.specs.Ready.{IsReadyFor};
+ghost use Rattle.ready_steps.specs.Ready.{IsReadyFor};
 
 use crate::groups::{deduplicated, grouped};
 use crate::joins::joined;

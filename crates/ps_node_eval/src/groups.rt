@@ -5,7 +5,7 @@ ghost use Rattle.ps_frame.specs.Tables.{Fields};
 ghost use Rattle.ps_frame.specs.Trees.{tree_at};
 ghost use Rattle.ps_meaning.specs.Nodes.{GivesFrame, MayFault};
 ghost use Rattle.ps_meaning.specs.Steps.{distinct_step, group_step};
-ghost use Rattle.ps_node_eval.specs.Ready.{IsReady};
+ghost use Rattle.ready_steps.specs.Ready.{IsReady};
 
 use crate::inputs::only;
 use ps_frame::expr::AExpr;

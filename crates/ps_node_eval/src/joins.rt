@@ -5,7 +5,7 @@ ghost use Rattle.ps_frame.specs.Trees.{tree_at};
 ghost use Rattle.ps_meaning.specs.Nodes.{GivesFrame, MayFault};
 ghost use Rattle.ps_joins.specs.JoinOf.{join_of};
 ghost use Rattle.ps_meaning.specs.Steps.{join as join_step};
-ghost use Rattle.ps_node_eval.specs.Ready.{IsReady};
+ghost use Rattle.ready_steps.specs.Ready.{IsReady};
 
 use crate::inputs::both;
 use ps_frame::expr::AExpr;

@@ -4,7 +4,7 @@ ghost use Rattle.ps_frame.specs.Functions.{Functions as Answers};
 ghost use Rattle.ps_meaning.specs.Nodes.{GivesFrame, MayFault};
 ghost use Rattle.ps_meaning.specs.Steps.{cache, function_step, hconcat as hconcat_step, project as project_step, row_index as row_index_step, scan as scan_step, sink, slice as slice_step, union as union_step, user as user_step};
 ghost use Rattle.ps_meaning.specs.declared.options.SinkType.{SinkType};
-ghost use Rattle.ps_node_eval.specs.Ready.{IsReady, IsReadyFor};
+ghost use Rattle.ready_steps.specs.Ready.{IsReady, IsReadyFor};
 
 use crate::inputs::only;
 use ps_frame::frame::DataFrame;

@@ -8,7 +8,7 @@ use Rattle.ps_meaning.specs.Cases.{rows_table}
 use Rattle.ps_meaning.specs.Schemas.{output_schema}
 use Rattle.ps_meaning.specs.Shape.{in_memory_map}
 use Rattle.ps_meaning.specs.Steps.{Step, user}
-use Rattle.ps_node_eval.specs.Ready.{IsReady}
+use Rattle.ready_steps.specs.Ready.{IsReady}
 use Rattle.plain_nodes.proofs.Turning.{begins, goes_on}
 use Rattle.ps_nodes.specs.Fit.{CanMap}
 use Rattle.ps_options.specs.declared.options.Options.{Options}

@@ -2,7 +2,7 @@
 use Rattle.std.specs.Prelude.{◌⊎◌, [], ◌∷◌, IsTrue}
 use Rattle.ps_frame.specs.Tables.{Fields}
 use Rattle.ps_meaning.specs.Steps.{Step}
-use Rattle.ps_node_eval.specs.Ready.{IsReady}
+use Rattle.ready_steps.specs.Ready.{IsReady}
 use Rattle.ps_owned_maps.specs.Owned.{is_function}
 
 -- A map over a table of this schema is fit, whatever functions there are. One of a function that the caller handed in is asked for that where it is filled.

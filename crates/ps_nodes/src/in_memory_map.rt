@@ -11,7 +11,7 @@ ghost use Rattle.ps_frame.specs.Tables.{Fields, whole};
 ghost use Rattle.ps_frame.specs.declared.error.FrameError.{FrameError};
 ghost use Rattle.ps_frame.specs.declared.refusal.PolarsError.{PolarsError};
 ghost use Rattle.ps_meaning.specs.Shape.{in_memory_map};
-ghost use Rattle.ps_node_eval.specs.Ready.{IsReadyFor};
+ghost use Rattle.ready_steps.specs.Ready.{IsReadyFor};
 ghost use Rattle.plain_nodes.specs.Cutting.{IsCutFor, IsFirstCut};
 ghost use Rattle.ps_nodes.specs.Fit.{CanMap};
 ghost use Rattle.ps_nodes.specs.Seen.{Faults, HasInputsOf, IsNewKeeper, Updates, progress_of};

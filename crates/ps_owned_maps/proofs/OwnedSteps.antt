@@ -11,8 +11,8 @@ use Rattle.ps_meaning.specs.Nodes.{GivesFrame, MayFault}
 use Rattle.ps_meaning.specs.Steps.{Step}
 use Rattle.ps_meaning.specs.declared.map.MapKind.{MapKind}
 use Rattle.ps_owned_maps.specs.Owned.{MapParts, step_of}
-use Rattle.ps_node_eval.specs.Ready.{IsReady, IsReadyFor}
-use Rattle.ps_node_eval.proofs.OverInputs.{Answer}
+use Rattle.ready_steps.specs.Ready.{IsReady, IsReadyFor}
+use Rattle.ready_steps.proofs.OverInputs.{Answer}
 
 module _ (F : Functions) (m : MapParts) (exprs : List AExpr) (k x : MapKind) (view : record { kind = k; exprs = exprs } ≡ m) (is : k ≡ x) where
   owned-is : step_of m ≡ map_step (tree_at exprs) x

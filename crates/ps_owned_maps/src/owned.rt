@@ -7,7 +7,7 @@ ghost use Rattle.ps_meaning.specs.Maps.{map_step};
 ghost use Rattle.ps_meaning.specs.Nodes.{GivesFrame, MayFault};
 ghost use Rattle.ps_meaning.specs.Steps.{step_exprs};
 ghost use Rattle.ps_owned_maps.specs.Owned.{is_function, step_of};
-ghost use Rattle.ps_node_eval.specs.Ready.{IsReadyFor};
+ghost use Rattle.ready_steps.specs.Ready.{IsReadyFor};
 
 use crate::fields::push_fields;
 use ps_copies::maps::copy_map;

@@ -2,7 +2,7 @@ use Rattle.std.proofs.Common.{◌≡◌, take}
 use Rattle.valid_plans.specs.Valid.{plan_with}
 use Rattle.ps_walks.specs.Accepted.{schemas_at}
 use Rattle.ps_walks.specs.Fit.{plan_schemas}
-use Rattle.ps_node_eval.specs.Ready.{frame_schemas}
+use Rattle.ready_steps.specs.Ready.{frame_schemas}
 use Rattle.node_trials.proofs.tables.+node_table.Given as goal
 
 abbrev pub decreases-node_table : goal.decreases-node_table

@@ -1,6 +1,6 @@
 use Rattle.ps_meaning.specs.Steps.{distinct_step}
-use Rattle.ps_node_eval.proofs.GroupSteps.{distinct-stands}
-use Rattle.ps_node_eval.proofs.OverInputs.{gives-at, memory-faults}
+use Rattle.group_steps.proofs.GroupSteps.{distinct-stands}
+use Rattle.ready_steps.proofs.OverInputs.{gives-at, memory-faults}
 use Rattle.ps_node_eval.proofs.groups.deduplicated.Goals as goal
 
 pub distinct-requires : goal.distinct-requires

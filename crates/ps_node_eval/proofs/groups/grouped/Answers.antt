@@ -1,8 +1,8 @@
 use Rattle.std.specs.Prelude.{Bool}
 use Rattle.ps_frame.specs.Trees.{tree_at}
 use Rattle.ps_meaning.specs.Steps.{group_step}
-use Rattle.ps_node_eval.proofs.GroupSteps.{aggs-typed, group-fields, keys-typed}
-use Rattle.ps_node_eval.proofs.OverInputs.{faults-with, gives-with}
+use Rattle.group_steps.proofs.GroupSteps.{aggs-typed, group-fields, keys-typed}
+use Rattle.ready_steps.proofs.OverInputs.{faults-with, gives-with}
 use Rattle.ps_node_eval.proofs.groups.grouped.Goals as goal
 
 pub group_by-requires-clause-keys : goal.group_by-requires-clause-keys

@@ -1,8 +1,8 @@
 use Rattle.ps_frame.specs.Trees.{tree_at}
 use Rattle.ps_joins.specs.JoinOf.{join_of}
 use Rattle.ps_meaning.specs.Steps.{join}
-use Rattle.ps_node_eval.proofs.JoinSteps.{join-schema, keys-paired, left-typed, right-typed}
-use Rattle.ps_node_eval.proofs.OverInputs.{faults-over, gives-over}
+use Rattle.ready_steps.proofs.JoinSteps.{join-schema, keys-paired, left-typed, right-typed}
+use Rattle.ready_steps.proofs.OverInputs.{faults-over, gives-over}
 use Rattle.ps_node_eval.proofs.joins.joined.Goals as goal
 
 pub join-requires-clause-left_keys : goal.join-requires-clause-left_keys

@@ -8,7 +8,7 @@ use Rattle.ps_plan.specs.Entries.{entry_step}
 use Rattle.ps_plan.specs.declared.ir.IR.{IR}
 use Rattle.valid_plans.specs.Valid.{plan_with}
 use Rattle.ps_walks.specs.Fit.{plan_schemas}
-use Rattle.ps_node_eval.specs.Ready.{IsReadyFor}
+use Rattle.ready_steps.specs.Ready.{IsReadyFor}
 use Rattle.ps_node_eval.proofs.NodeSteps.{node-faults, node-gives, node-inputs, node-ready, node-schema}
 use Rattle.ps_node_eval.proofs.node.evaluate_node.Goals as goal
 

@@ -1,7 +1,7 @@
 use Rattle.ps_frame.specs.Trees.{tree_at}
 use Rattle.ps_meaning.specs.Steps.{filter}
-use Rattle.ps_node_eval.proofs.OverInputs.{faults-over, gives-over}
-use Rattle.ps_node_eval.proofs.RowSteps.{filter-kind, filter-whole}
+use Rattle.ready_steps.proofs.OverInputs.{faults-over, gives-over}
+use Rattle.ready_steps.proofs.RowSteps.{filter-kind, filter-whole}
 use Rattle.ps_node_eval.proofs.rows.filtered.Goals as goal
 
 pub filter-requires-clause-expression : goal.filter-requires-clause-expression

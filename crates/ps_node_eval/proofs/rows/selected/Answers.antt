@@ -1,7 +1,7 @@
 use Rattle.ps_frame.specs.Trees.{tree_at}
 use Rattle.ps_meaning.specs.Steps.{named_trees, select}
-use Rattle.ps_node_eval.proofs.OverInputs.{faults-over, gives-over}
-use Rattle.ps_node_eval.proofs.RowSteps.{select-fields, select-whole}
+use Rattle.ready_steps.proofs.OverInputs.{faults-over, gives-over}
+use Rattle.ready_steps.proofs.RowSteps.{select-fields, select-whole}
 use Rattle.ps_node_eval.proofs.rows.selected.Goals as goal
 
 pub select-requires-clause-expressions : goal.select-requires-clause-expressions

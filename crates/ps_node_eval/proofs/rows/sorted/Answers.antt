@@ -1,7 +1,7 @@
 use Rattle.ps_frame.specs.Trees.{tree_at}
 use Rattle.ps_meaning.specs.Steps.{sort_step}
-use Rattle.ps_node_eval.proofs.OverInputs.{faults-over, gives-over}
-use Rattle.ps_node_eval.proofs.RowSteps.{sort-typed}
+use Rattle.ready_steps.proofs.OverInputs.{faults-over, gives-over}
+use Rattle.ready_steps.proofs.RowSteps.{sort-typed}
 use Rattle.ps_node_eval.proofs.rows.sorted.Goals as goal
 
 pub sort-requires : goal.sort-requires

@@ -1,7 +1,7 @@
 use Rattle.ps_frame.specs.Trees.{tree_at}
 use Rattle.ps_meaning.specs.Steps.{hstack, named_trees}
-use Rattle.ps_node_eval.proofs.OverInputs.{faults-over, gives-over}
-use Rattle.ps_node_eval.proofs.RowSteps.{hstack-fields, hstack-names, hstack-whole}
+use Rattle.ready_steps.proofs.OverInputs.{faults-over, gives-over}
+use Rattle.ready_steps.proofs.RowSteps.{hstack-fields, hstack-names, hstack-whole}
 use Rattle.ps_node_eval.proofs.rows.stacked.Goals as goal
 
 pub hstack-requires-clause-expressions : goal.hstack-requires-clause-expressions

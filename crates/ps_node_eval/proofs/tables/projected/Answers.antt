@@ -1,5 +1,5 @@
 use Rattle.ps_meaning.specs.Steps.{project}
-use Rattle.ps_node_eval.proofs.OverInputs.{gives-at}
+use Rattle.ready_steps.proofs.OverInputs.{gives-at}
 use Rattle.ps_node_eval.proofs.tables.projected.Goals as goal
 
 pub returns-clause-table : goal.returns-clause-table

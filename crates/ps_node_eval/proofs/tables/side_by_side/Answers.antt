@@ -1,6 +1,6 @@
 use Rattle.std.proofs.Common.{refl}
 use Rattle.ps_meaning.specs.Steps.{hconcat}
-use Rattle.ps_node_eval.proofs.OverInputs.{gives-at}
+use Rattle.ready_steps.proofs.OverInputs.{gives-at}
 use Rattle.ps_node_eval.proofs.TableSteps.{beside-columns}
 use Rattle.ps_node_eval.proofs.tables.side_by_side.Goals as goal
 

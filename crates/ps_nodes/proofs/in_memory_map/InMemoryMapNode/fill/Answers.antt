@@ -4,7 +4,7 @@ use Rattle.bare_nodes.specs.Bare.{bare_node}
 use Rattle.made_tables.specs.Made.{MayBreak}
 use Rattle.ps_frame.specs.Tables.{Fields, Frame, Table, whole}
 use Rattle.ps_meaning.specs.Shape.{in_memory_map}
-use Rattle.ps_node_eval.specs.Ready.{IsReadyFor}
+use Rattle.ready_steps.specs.Ready.{IsReadyFor}
 use Rattle.ps_nodes.proofs.MapTurn.{one_table}
 use Rattle.ps_nodes.specs.Seen.{progress_of}
 use Rattle.ps_nodes.specs.declared.flow.FlowNode.TheVariants as flow

@@ -7,9 +7,9 @@ use Rattle.ps_meaning.specs.Schemas.{fields_of}
 use Rattle.ps_meaning.specs.Steps.{named_trees}
 use Rattle.ps_meaning.specs.declared.options.ExprIR.{ExprIR}
 use Rattle.ps_meaning.specs.declared.map.MapKind.TheVariants as kind
-use Rattle.ps_node_eval.proofs.GroupSteps.{aggs-typed, distinct-stands, keys-typed}
+use Rattle.group_steps.proofs.GroupSteps.{aggs-typed, distinct-stands, keys-typed}
 use Rattle.ps_owned_maps.proofs.OwnedSteps.{owned-faults, owned-gives, owned-ready}
-use Rattle.ps_node_eval.proofs.RowSteps.{select-whole, sort-typed}
+use Rattle.ready_steps.proofs.RowSteps.{select-whole, sort-typed}
 use Rattle.ps_owned_maps.proofs.owned.OwnedMap.call.Goals as goal
 
 pub push_fields-requires : goal.push_fields-requires

@@ -22,8 +22,8 @@ use Rattle.ps_meaning.specs.declared.options.ExprIR.{ExprIR}
 use Rattle.ps_zip.proofs.Named.{exprs-of-named}
 use Rattle.ps_zip.specs.Zips.{AreTypedOver}
 use Rattle.ps_groups.specs.Subsets.{StandIn}
-use Rattle.ps_node_eval.specs.Ready.{IsReady, frame_schemas}
-use Rattle.ps_node_eval.proofs.RowSteps.{all-kinds, first-of}
+use Rattle.ready_steps.specs.Ready.{IsReady, frame_schemas}
+use Rattle.ready_steps.proofs.RowSteps.{all-kinds, first-of}
 
 -- keys and aggregates
 module _ (f : Node → Tree) (keys aggs : List ExprIR) (maintained : Bool) (cut : Cut) (fs : List Frame) (d : Frame) (s : Fields) (only : fs ≡ d ∷ []) (r : IsReady (group_step f keys aggs maintained cut) fs s) where

@@ -8,7 +8,7 @@ use Rattle.ps_frame.specs.declared.refusal.PolarsError.{PolarsError}
 use Rattle.ps_frame.specs.declared.refusal.PolarsError.TheVariants as error
 use Rattle.ps_meaning.specs.Nodes.{GivesFrame, MayFault}
 use Rattle.ps_meaning.specs.Steps.{Step}
-use Rattle.ps_node_eval.specs.Ready.{IsReady}
+use Rattle.ready_steps.specs.Ready.{IsReady}
 
 abbrev pub Answer : Type 0
 Answer = Result Frame PolarsError

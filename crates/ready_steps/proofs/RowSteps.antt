@@ -18,7 +18,7 @@ use Rattle.ps_meaning.specs.declared.options.ExprIR.{ExprIR}
 use Rattle.ps_meaning.specs.declared.options.SortMultipleOptions.{SortMultipleOptions}
 use Rattle.ps_zip.proofs.Named.{exprs-of-named}
 use Rattle.ps_zip.specs.Zips.{AreTypedOver}
-use Rattle.ps_node_eval.specs.Ready.{IsReady, frame_schemas}
+use Rattle.ready_steps.specs.Ready.{IsReady, frame_schemas}
 
 -- expressions that have kinds
 pub all-kinds : (s : Fields) (es : List Tree) → IsTrue (have_all_kinds s es) → AllByRecursion (λ e. IsSome (kind_over s e)) es

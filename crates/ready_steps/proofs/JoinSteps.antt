@@ -22,8 +22,8 @@ use Rattle.ps_meaning.specs.Steps.{JoinStep, join}
 use Rattle.ps_meaning.specs.declared.options.JoinType.{JoinType}
 use Rattle.ps_meaning.specs.declared.options.JoinType.TheVariants as how
 use Rattle.ps_zip.specs.Zips.{AreTypedOver, expr_kinds}
-use Rattle.ps_node_eval.specs.Ready.{IsReady}
-use Rattle.ps_node_eval.proofs.RowSteps.{all-kinds}
+use Rattle.ready_steps.specs.Ready.{IsReady}
+use Rattle.ready_steps.proofs.RowSteps.{all-kinds}
 
 -- as many keys on either side
 as-many : (n m : ℕ) → ¬ (n ≢ m) → n ≡ m

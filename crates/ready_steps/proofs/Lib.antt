@@ -1,0 +1,3 @@
+pub mod OverInputs
+pub mod RowSteps
+pub mod JoinSteps
