@@ -1,5 +1,5 @@
 -- A join by keys, each side's lowered beside all its columns.
-use Rattle.std.proofs.Common.{◌≡◌, ◌≢◌, ◌⊎◌, inl, inr, ℕ, zero, suc, ◌+◌, ◌<◌, ◌≤◌, ◌^◌, true, cond, List, [], ◌∷◌, ◌++◌, length, take, Some, None, refl, sym, ap, subst, ◌∙◌, arith, length-append}
+use Rattle.std.proofs.Common.{◌≡◌, ◌≢◌, ◌⊎◌, inl, inr, ℕ, zero, suc, ◌+◌, ◌<◌, ◌≤◌, ◌^◌, true, cond, List, [], ◌∷◌, ◌++◌, length, take, Some, refl, sym, ap, subst, ◌∙◌, arith, length-append}
 use Rattle.std.proofs.Math.Seq.{take-append_seam}
 use Rattle.std.proofs.lemmas.List.{length-map}
 use Rattle.std.proofs.lemmas.Option.{same_Some, slice_get_within}
@@ -18,9 +18,7 @@ use Rattle.ps_meaning.specs.Meaning.{IsLargeCase}
 use Rattle.ps_meaning.specs.Schemas.{is_among, join_schema, left_output, names_of, right_output}
 use Rattle.ps_meaning.specs.Shape.{IsLargeAt, IsLargeByStep, IsPhysicalChoice, PhysicalBefore, PhysicalMayGive, PhysicalNode, Shape, as_step, equi_join, in_memory_join, input_tables, tables_for}
 use Rattle.ps_meaning.specs.Sound.{have_all_kinds, schema_at as schema_there}
-use Rattle.ps_meaning.specs.Steps.{Cut, JoinStep, Name, join}
-use Rattle.ps_meaning.specs.declared.options.JoinType.{JoinType}
-use Rattle.ps_meaning.specs.declared.options.JoinType.TheVariants as how
+use Rattle.ps_meaning.specs.Steps.{JoinStep, Name, join}
 use Rattle.ps_plan.specs.Lowering.{HasRowsOf}
 use Rattle.ps_rules.specs.Calls.{Answer}
 use Rattle.ps_rules.specs.Lowered.{lower_exprs}
@@ -35,14 +33,16 @@ use Rattle.plan_rules.specs.Joins.{equi_join_stream, join_stream, keyed_join, ov
 use Rattle.plan_rules.specs.Slices.{cut_stream}
 use Rattle.step_keeps.specs.Kept.{EndsAsStep, HasJoinSchema, IsKeptStep, KeepsStep, ShowsOnlyStep, SomeIsLarge}
 use Rattle.step_keeps.proofs.Added.{restricted}
+use Rattle.step_keeps.proofs.CellSteps.{uncut_gives, uncut_schema}
 use Rattle.step_keeps.proofs.Cuts.{cut_keeps}
 use Rattle.step_keeps.proofs.One.{last_node, last_there}
 use Rattle.keyed_calls.specs.Keyed.{KeyedAlike}
 use Rattle.keyed_calls.proofs.Asked.{Makes, answer_schema, makes, own_schema}
 use Rattle.keyed_calls.proofs.Calls.{alike_before, keys_before, shows_before}
 use Rattle.keyed_calls.proofs.Told.{Adds, IsFed, Tells, adds_node, adds_none, adds_then, fed_later, tells_then}
+use Rattle.rule_parts.proofs.Growing.{exprs_grow}
 use Rattle.join_keeps.proofs.Alike.{Narrows, given_breaks, given_sizes, left_breaks, left_large, narrows, right_breaks, right_large, wide_schema}
-use Rattle.join_keeps.proofs.Names.{exprs_grow, input_known, shown_cases, shown_known, shows}
+use Rattle.join_keeps.proofs.Names.{input_known, shown_cases, shown_known, shows}
 use Rattle.join_keeps.proofs.Rows.{row_given}
 
 all_known : (a b : Names) → ((n : Name) → IsKnown a n → IsKnown b n) → (ns : List Name) → AreKnown a ns → AreKnown b ns
@@ -58,29 +58,6 @@ two_fed P i j p q k (suc (suc n), within, e) = absurd (omega arith)
 only_fed : (P : Stream → Type 0) (i : Stream) → P i → (k : Stream) → Contains (i ∷ []) k → P k
 only_fed P i p k (zero, within, e) = subst P e p
 only_fed P i p k (suc n, within, e) = absurd (omega arith)
-
--- what a join gives before its slice, and its schema, are those of the join without it
-module _ (F : Functions) (at : ℕ) (o : JoinStep) where
-  abbrev of_type : JoinType → Cut → JoinStep
-  of_type type cut = record o { args = record o.args { how = type; slice = cut } }
-
-  uncut_gives : (type : JoinType) (cut : Cut) (ts : List Table) (U : Table) → GivesBeforeCut F at (join (of_type type None)) ts U → GivesBeforeCut F at (join (of_type type cut)) ts U
-  uncut_gives how.Inner cut ts U g = g
-  uncut_gives how.Left cut ts U g = g
-  uncut_gives how.Right cut ts U g = g
-  uncut_gives how.Full cut ts U g = g
-  uncut_gives how.Semi cut ts U g = g
-  uncut_gives how.Anti cut ts U g = g
-  uncut_gives how.Cross cut ts U g = g
-
-  uncut_schema : (type : JoinType) (cut : Cut) (a b : Fields) → join_schema (of_type type cut) a b ≡ join_schema (of_type type None) a b
-  uncut_schema how.Inner cut a b = refl
-  uncut_schema how.Left cut a b = refl
-  uncut_schema how.Right cut a b = refl
-  uncut_schema how.Full cut a b = refl
-  uncut_schema how.Semi cut a b = refl
-  uncut_schema how.Anti cut a b = refl
-  uncut_schema how.Cross cut a b = refl
 
 -- the call of the right side, once the left side stands
 module _ (at : ℕ) (r : Stream) (s t : State) (grown : IsGrown s t) (keys : List Tree) (ready : IsReady s r (keys ++ columns_over r s)) where

@@ -84,10 +84,6 @@ found_right n (x ∷ s) t (w ∷ vs) us v l none k =
     by true q rest = absurd (none (or_first (bytes_eq n x.0) (is_among n (names_of s)) q))
     by false q rest = found_next n x (s ++ t) w v (vs ++ us) q rest
 
-pub suffixed_names : (suffix : Name) (taken : List Name) (s : Fields) → names_of (suffixed suffix taken s) ≡ map (renamed suffix taken) (names_of s)
-suffixed_names suffix taken [] = refl
-suffixed_names suffix taken (x ∷ s) = ap (λ (ns : List Name). renamed suffix taken x.0 ∷ ns) (suffixed_names suffix taken s)
-
 -- values that are given by names, where some of these get a suffix: what is found is the value of one that is named so
 pub found_renamed : (suffix : Name) (taken : List Name) (f : Name → Value) (n m : Name) (s : Fields) → is_among m (names_of s) ≡ true → renamed suffix taken m ≡ n → ((k : Name) → is_among k (names_of s) ≡ true → renamed suffix taken k ≡ n → f k ≡ f m)
     → Found n (suffixed suffix taken s) (map f (names_of s)) (f m)

@@ -1,20 +1,17 @@
 -- The names that a call for keys beside all columns shows.
 use Rattle.std.proofs.Common.{◌≡◌, ◌≢◌, ◌⊎◌, inl, inr, ℕ, ◌≤◌, ◌^◌, true, List, [], ◌∷◌, ◌++◌, sym, ap, subst, ◌∙◌}
-use Rattle.std.specs.Prelude.{is_some, map}
+use Rattle.std.specs.Prelude.{is_some}
 use Rattle.ps_frame.specs.Functions.{Functions}
 use Rattle.ps_frame.specs.Tables.{Fields, Table, field_kind}
 use Rattle.ps_frame.specs.Trees.{Tree}
 use Rattle.ps_meaning.specs.Schemas.{bare_names, is_among, names_of}
 use Rattle.ps_meaning.specs.Steps.{Name}
 use Rattle.ps_rules.specs.Calls.{Answer}
-use Rattle.ps_rules.specs.Lowered.{as_operand, lower_exprs}
+use Rattle.ps_rules.specs.Lowered.{lower_exprs}
 use Rattle.ps_rules.specs.Names.{IsKnown, Names}
-use Rattle.ps_rules.specs.Rules.{together}
 use Rattle.ps_rules.specs.Slots.{State, Stream, schema_at, schema_or_none}
 use Rattle.ps_shares.specs.Kept.{IsReady}
-use Rattle.ps_shares.proofs.Adding.{all_grow, calls_add}
-use Rattle.ps_shares.proofs.Fresh.{Grown}
-use Rattle.ps_shares.proofs.Growing.{grows_finished, grows_together}
+use Rattle.ps_shares.proofs.Adding.{calls_add}
 use Rattle.ps_shares.proofs.Projected.{kind_as, named_as}
 use Rattle.ps_shares.proofs.Stands.{among_known}
 use Rattle.plan_rules.specs.Groups.{columns_over}
@@ -27,10 +24,6 @@ use Rattle.answered_names.specs.Answers.{AreSameColumns}
 use Rattle.answered_names.proofs.Columns.{columns_alone}
 use Rattle.answered_names.proofs.Shown.{calls_shown}
 use Rattle.join_keeps.proofs.Sides.{Shows}
-
--- names only grow
-pub exprs_grow : (at : ℕ) (input : Stream) (es : List Tree) (s : State) → Grown s.names (lower_exprs at input es s).state.names
-exprs_grow at input es s = let os = map (as_operand at input) es in grows_finished at input s.names (together at input os s) (grows_together at input os (all_grow at input es) s)
 
 forth : (names : Names) (es xs : List Tree) → AreSameColumns names es xs → Carries (IsKnown names) es xs
 forth names [] [] h = tt

@@ -1,9 +1,6 @@
 -- The rows of a join over streams that show more: by the names of the narrower join, they are its rows.
-use Rattle.std.proofs.Common.{◌≡◌, ◌⊎◌, inl, inr, ◌+◌, ◌≤◌, Bool, true, false, cond, List, [], ◌∷◌, ◌++◌, length, refl, sym, ap, subst, ◌∙◌, arith}
+use Rattle.std.proofs.Common.{◌≡◌, ◌⊎◌, inl, inr, ◌+◌, ◌≤◌, Bool, true, false, cond, List, ◌++◌, length, refl, sym, ap, subst, ◌∙◌, arith}
 use Rattle.std.specs.Prelude.{map}
-use Rattle.std.specs.Cmp.Lexicographic.{bytes_decides}
-use Rattle.std.specs.Str.{bytes_eq}
-use Rattle.std.proofs.lemmas.Bool.{or_cases}
 use Rattle.std.proofs.lemmas.List.{length-map, map-append}
 use Rattle.ps_frame.specs.Tables.{Fields}
 use Rattle.ps_frame.specs.Trees.{Tree}
@@ -14,58 +11,13 @@ use Rattle.ps_meaning.specs.Joins.{Pair, goes_by_left, joined_row}
 use Rattle.ps_meaning.specs.Schemas.{bare_names, is_among, join_schema, left_output, names_of, right_output, suffix_of, suffixed}
 use Rattle.ps_meaning.specs.Steps.{JoinStep, Name}
 use Rattle.ps_shares.proofs.Aggregated.{map_again}
-use Rattle.ps_bundles.proofs.Reading.{among_last, or_first, or_last}
+use Rattle.ps_bundles.proofs.Reading.{among_last}
 use Rattle.name_rules.proofs.Times.{among_times, times, times_append}
 use Rattle.plan_rules.specs.Joins.{keyed_join}
-use Rattle.rule_parts.proofs.Merged.{merged, renamed}
+use Rattle.rule_parts.proofs.Merged.{merged, merged_names, renamed, same_truth, to_map, told}
 use Rattle.rule_parts.proofs.Sides.{drops_left, drops_right, left_is, right_is, side}
-use Rattle.join_keeps.proofs.Lookups.{found_left, found_named, found_renamed, found_right, found_value, map_among, picked_values, suffixed_names, value_of}
+use Rattle.join_keeps.proofs.Lookups.{found_left, found_named, found_renamed, found_right, found_value, map_among, picked_values, value_of}
 use Rattle.join_keeps.proofs.Sides.{Shows, side_in, side_new, side_old, wide_in}
-
--- of names under a function
-to_map : (g : Name → Name) (ns : List Name) (m : Name) → is_among m ns ≡ true → is_among (g m) (map g ns) ≡ true
-to_map g [] m q = cc
-to_map g (k ∷ ns) m q =
-    elim (or_cases (bytes_eq m k) (is_among m ns) q) [
-      | inl p ↦ or_first (bytes_eq (g m) (g k)) (is_among (g m) (map g ns)) ((bytes_decides (g m) (g k)).1 (ap g ((bytes_decides m k).0 p)))
-      | inr p ↦ or_last (bytes_eq (g m) (g k)) (is_among (g m) (map g ns)) (to_map g ns m p)
-    ]
-
-counted_first : (n k : Name) (ns : List Name) → n ≡ k → times n (k ∷ ns) ≡ 1 + times n ns
-counted_first n k ns e = ap (λ (b : Bool). cond b 1 0 + times n ns) ((bytes_decides n k).1 e)
-
-counted_less : (n k : Name) (ns : List Name) → times n ns ≤ times n (k ∷ ns)
-counted_less n k ns = by (bytes_eq n k)
-  where
-    by : (b : Bool) → times n ns ≤ cond b 1 0 + times n ns
-    by true = omega arith
-    by false = omega arith
-
--- where a function's name stands once, it is that of one name
-told : (g : Name → Name) (ns : List Name) (m k : Name) → is_among m ns ≡ true → is_among k ns ≡ true → g m ≡ g k → times (g m) (map g ns) ≤ 1 → m ≡ k
-told g [] m k p q e le = cc
-told g (j ∷ ns) m k p q e le = by (or_cases (bytes_eq m j) (is_among m ns) p) (or_cases (bytes_eq k j) (is_among k ns) q) (λ u v. told g ns m k u v e (let l = counted_less (g m) (g j) (map g ns) in omega arith))
-  where
-    by : (bytes_eq m j ≡ true) ⊎ (is_among m ns ≡ true) → (bytes_eq k j ≡ true) ⊎ (is_among k ns ≡ true) → (is_among m ns ≡ true → is_among k ns ≡ true → m ≡ k) → m ≡ k
-    by (inl u) (inl v) more = (bytes_decides m j).0 u ∙ sym ((bytes_decides k j).0 v)
-    by (inl u) (inr v) more =
-        let c = counted_first (g m) (g j) (map g ns) (ap g ((bytes_decides m j).0 u)) in
-        let l = among_times (g m) (map g ns) (ap (λ x. is_among x (map g ns)) e ∙ to_map g ns k v) in
-        absurd (omega arith)
-    by (inr u) (inl v) more =
-        let c = counted_first (g m) (g j) (map g ns) (e ∙ ap g ((bytes_decides k j).0 v)) in
-        let l = among_times (g m) (map g ns) (to_map g ns m u) in
-        absurd (omega arith)
-    by (inr u) (inr v) more = more u v
-
-same_truth : (a b : Bool) → (a ≡ true → b ≡ true) → (b ≡ true → a ≡ true) → a ≡ b
-same_truth true b f g = sym (f refl)
-same_truth false true f g = g refl
-same_truth false false f g = refl
-
--- the names of both sides, one after the other
-merged_names : (suffix : Name) (l r : Fields) → names_of (merged suffix l r) ≡ names_of l ++ map (renamed suffix (names_of l)) (names_of r)
-merged_names suffix l r = map-append (λ (x : Name × DataType). x.0) l (suffixed suffix (names_of l) r) ∙ ap (λ (ns : List Name). names_of l ++ ns) (suffixed_names suffix (names_of l) r)
 
 -- Sides and wider ones: names that were known before are those of the narrower sides, and other ones are new.
 pub record AreWider (Before After : Name → Type 0) (suffix : Name) (l r wide_l wide_r : Fields) : Type 0 where

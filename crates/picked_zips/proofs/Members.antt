@@ -65,3 +65,7 @@ filter_map {A} {B} f test (x ∷ xs) = by (test (f x)) (filter_map f test xs)
 pub map_each : {A B : Type 0} (f g : A → B) (P : A → Type 0) → ((x : A) → P x → f x ≡ g x) → (xs : List A) → AllByRecursion P xs → map f xs ≡ map g xs
 map_each f g P same [] all = refl
 map_each f g P same (x ∷ xs) all = let p = same x all.0 in let q = map_each f g P same xs all.1 in λ i. p i ∷ q i
+
+pub filter_each : {A : Type 0} (f g : A → Bool) (P : A → Type 0) → ((x : A) → P x → f x ≡ g x) → (xs : List A) → AllByRecursion P xs → filter f xs ≡ filter g xs
+filter_each f g P same [] all = refl
+filter_each f g P same (x ∷ xs) all = let p = same x all.0 in let q = filter_each f g P same xs all.1 in λ i. cond (p i) (x ∷ q i) (q i)

@@ -24,15 +24,13 @@ use Rattle.ps_shares.proofs.Fresh.{Grown}
 use Rattle.ps_shares.proofs.Stands.{Fresh, stand_for_asked}
 use Rattle.ps_bundles.proofs.Reading.{or_first, or_last}
 use Rattle.name_rules.specs.Lawful.{Differ}
-use Rattle.name_rules.proofs.Items.{each_some}
 use Rattle.lowering_kinds.proofs.Selecting.{items_of, selects_have_fields}
 use Rattle.lowering_kinds.proofs.Staying.{kinds_stay}
-use Rattle.lowering_names.proofs.Calling.{Fine}
 use Rattle.lowering_sound.proofs.Sounding.{exprs_stay_sound, selects_stay_sound}
 use Rattle.rule_parts.specs.Good.{IsStream, KnowsNames}
 use Rattle.rule_parts.proofs.Standing.{Makes, schema_is, sound_distinct, sound_ordered, stream_below}
 use Rattle.rule_parts.proofs.Growing.{exprs_grow, select_grows}
-use Rattle.rule_nodes.proofs.Shown.{answered_shown}
+use Rattle.answered_names.proofs.Shown.{calls_shown}
 
 pub all_among : (P : Name → Type 0) (ns : List Name) → ((n : Name) → is_among n ns ≡ true → P n) → AllByRecursion P ns
 all_among P [] h = tt
@@ -73,7 +71,6 @@ module _ (F : Functions) (at : ℕ) (input : Stream) (s : State) (f : Fields) (f
       let made = answers_made at input os (all_add at input es) s r.ordered (stream_below s.nodes input f from) in
       let p = there a.state.nodes a.stream.0 made.1 in
       let z = schema_at a.state.nodes a.stream in
-      let fine : Fine F at input from.node r.distinct_names s = record { ordered = r.ordered; there = r.there; known = r.known } in
       record {
         more = g.more;
         nodes = g.nodes;
@@ -83,8 +80,7 @@ module _ (F : Functions) (at : ℕ) (input : Stream) (s : State) (f : Fields) (f
         stream = record { node = p.0; there = p.1; schema = sym (ap schema_or_none p.1) };
         kinds = kinds_stay F at input s es r small ∙ ap (λ (g : Fields). map (kind_over g) es) (schema_is s.nodes input f from);
         plain = (stand_for_asked at input s es r small).0;
-        shown = λ n q. subst (λ (g : Fields). (is_among n (names_of g) ≡ true) ⊎ Fresh s.names a.state.names n) from.schema
-            (answered_shown F at input from.node r.distinct_names es s fine (each_some from.node.schema es r.typed) some small n q);
+        shown = λ n q. subst (λ (g : Fields). (is_among n (names_of g) ≡ true) ⊎ Fresh s.names a.state.names n) (schema_is s.nodes input f from) (calls_shown F at input s es r small n q);
       }
 
   pub select_made : (es : List Named) → have_all_kinds f (exprs_of es) ≡ true → exprs_of es ≢ [] → Differ (expr_names es) → (select_stream at input es s).state.names.next ≤ 2 ^ 64 → Makes F s (select_stream at input es s) (selected_schema es f)

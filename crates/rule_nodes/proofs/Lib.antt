@@ -1,4 +1,3 @@
-pub mod Shown
 pub mod Calls
 pub mod Further
 pub mod Keyed

@@ -9,12 +9,12 @@ use Rattle.ps_frame.specs.Tables.{Fields, field_kind}
 use Rattle.ps_frame.specs.Trees.{Tree}
 use Rattle.ps_frame.specs.Typing.{kind_over}
 use Rattle.ps_frame.specs.declared.value.DataType.{DataType}
+use Rattle.ps_meaning.proofs.StepFits.{own-kinds}
 use Rattle.ps_meaning.specs.Schemas.{both as both_of, named_fields, names_of}
 use Rattle.ps_meaning.specs.Shape.{simple_projection}
 use Rattle.ps_meaning.specs.Sound.{IsSoundButForReaders}
 use Rattle.ps_meaning.specs.Steps.{Name}
 use Rattle.ps_rules.specs.Slots.{Made, State, Stream, columns_named, over, projection, same_names, schema_at, with_columns}
-use Rattle.ps_bundles.proofs.Reading.{kinds_own}
 use Rattle.name_rules.proofs.Items.{each_among, found_among, same_is}
 use Rattle.name_rules.proofs.Ruling.{project_right}
 use Rattle.name_rules.proofs.Times.{distinct_once}
@@ -43,7 +43,7 @@ named_names (n ∷ ns) s fs e = by (field_kind n s) (named_fields ns s) e (named
     by (Some k) (Some gs) e more = let w : Some ((n, k) ∷ gs) ≡ Some fs = e in ap names_of (sym (same_Some ((n, k) ∷ gs) fs w)) ∙ ap (λ ms. n ∷ ms) (more gs refl)
 
 pub own_itself : (f : Fields) → has_distinct_names f ≡ true → OwnKinds f f
-own_itself f d = kinds_own f d
+own_itself f d = own-kinds f d
 
 -- the kinds of columns in two schemas
 abbrev pub SameKinds : Fields → Fields → List Name → Type 0

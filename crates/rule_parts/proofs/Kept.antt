@@ -11,6 +11,7 @@ use Rattle.ps_frame.specs.Tables.{Fields, field_kind}
 use Rattle.ps_frame.specs.Trees.{Aggregation, Tree}
 use Rattle.ps_frame.specs.Typing.{aggregate_kind, is_scalar}
 use Rattle.ps_frame.specs.declared.value.DataType.{DataType}
+use Rattle.ps_meaning.proofs.Begins.{or-left, or-right}
 use Rattle.ps_meaning.specs.Schemas.{expr_names, is_among, names_of}
 use Rattle.ps_meaning.specs.Sound.{have_all_kinds}
 use Rattle.ps_meaning.specs.StepRefusals.{lacks_name, repeats}
@@ -19,7 +20,6 @@ use Rattle.ps_meaning.specs.declared.options.UniqueKeepStrategy.{UniqueKeepStrat
 use Rattle.ps_rules.specs.Names.{IsKnown, Names}
 use Rattle.ps_rules.specs.Slots.{columns_named}
 use Rattle.ps_shares.proofs.Projected.{kind_as, named_as}
-use Rattle.ps_bundles.proofs.Reading.{or_first, or_last}
 use Rattle.name_rules.proofs.Times.{among_times, distinct_once, never_once, times, times_among}
 use Rattle.plan_rules.specs.Distinct.{keeps_last, kept_value, kept_values, other_than}
 use Rattle.rule_parts.proofs.Passing.{all_stand}
@@ -33,7 +33,7 @@ pub record AreKeys (f : Fields) (keys : List Name) : Type 0 where
 
 pub each_inside : (ns ms : List Name) → ((n : Name) → is_among n ns ≡ true → is_among n ms ≡ true) → AllByRecursion (λ n. is_among n ms ≡ true) ns
 each_inside [] ms h = tt
-each_inside (n ∷ ns) ms h = (h n (or_first (bytes_eq n n) (is_among n ns) ((bytes_decides n n).1 refl)), each_inside ns ms (λ m q. h m (or_last (bytes_eq m n) (is_among m ns) q)))
+each_inside (n ∷ ns) ms h = (h n (or-left (bytes_eq n n) (is_among n ns) ((bytes_decides n n).1 refl)), each_inside ns ms (λ m q. h m (or-right (bytes_eq m n) (is_among m ns) q)))
 
 pub keys_of : (f : Fields) (subset : Option (List Name)) → f ≢ [] → has_distinct_names f ≡ true → (subset ≡ Some [] → ⊥) → ((n : Name) → IsSomeAnd subset (λ ns. IsTrue (lacks_name n f ns)) → ⊥) → ((n : Name) → IsSomeAnd subset (λ ns. IsTrue (repeats n ns)) → ⊥)
     → AreKeys f (unwrap_or subset (names_of f))
@@ -109,9 +109,9 @@ other_there keys n (m ∷ ns) h q = by (bytes_eq n m) refl (is_among m keys) ref
   where
     by : (c : Bool) → bytes_eq n m ≡ c → (b : Bool) → is_among m keys ≡ b → (c || is_among n ns) ≡ true → (is_among n ns ≡ true → is_among n keys ≡ false → is_among n (other_than keys ns) ≡ true) → is_among n (cond (not b) (m ∷ other_than keys ns) (other_than keys ns)) ≡ true
     by true u true p h more = let w : true ≡ false = sym p ∙ ap (λ k. is_among k keys) (sym ((bytes_decides n m).0 u)) ∙ q in cc
-    by true u false p h more = or_first (bytes_eq n m) (is_among n (other_than keys ns)) u
+    by true u false p h more = or-left (bytes_eq n m) (is_among n (other_than keys ns)) u
     by false u true p h more = more h q
-    by false u false p h more = or_last (bytes_eq n m) (is_among n (other_than keys ns)) (more h q)
+    by false u false p h more = or-right (bytes_eq n m) (is_among n (other_than keys ns)) (more h q)
 
 pub inside_times : (n : Name) (ns ms : List Name) → AllByRecursion (λ n. is_among n ms ≡ true) ns → 1 ≤ times n ns → 1 ≤ times n ms
 inside_times n ns ms all le = among_times n ms (at_among (λ n. is_among n ms ≡ true) ns n all (times_among n ns le))

@@ -6,12 +6,13 @@ use Rattle.std.specs.List.{AllByRecursion}
 use Rattle.std.specs.Str.{bytes_eq}
 use Rattle.std.proofs.lemmas.Bool.{cases_lt, or_cases}
 use Rattle.std.proofs.lemmas.List.{map-append}
+use Rattle.std.proofs.lemmas.List.Folds.{list_any-append}
 use Rattle.ps_frame.specs.Tables.{Fields}
 use Rattle.ps_frame.specs.declared.value.DataType.{DataType}
+use Rattle.ps_meaning.proofs.Begins.{or-left, or-right}
 use Rattle.ps_meaning.specs.Schemas.{is_among, names_of, suffixed}
 use Rattle.ps_meaning.specs.Steps.{Name}
 use Rattle.ps_shares.proofs.Members.{Has, from_has}
-use Rattle.ps_bundles.proofs.Reading.{among_last, or_first, or_last}
 use Rattle.name_rules.proofs.Times.{among_times, times, times_among, times_append}
 use Rattle.rule_parts.proofs.Picks.{same_self}
 
@@ -20,16 +21,16 @@ from_map : (g : Name → Name) (ns : List Name) (n : Name) → is_among n (map g
 from_map g [] n q = cc
 from_map g (k ∷ ns) n q =
     elim (or_cases (bytes_eq n (g k)) (is_among n (map g ns)) q) [
-      | inl p ↦ (k, or_first (bytes_eq k k) (is_among k ns) (same_self k), (bytes_decides n (g k)).0 p)
-      | inr p ↦ (let r = from_map g ns n p in (r.0, or_last (bytes_eq r.0 k) (is_among r.0 ns) r.1, r.2))
+      | inl p ↦ (k, or-left (bytes_eq k k) (is_among k ns) (same_self k), (bytes_decides n (g k)).0 p)
+      | inr p ↦ (let r = from_map g ns n p in (r.0, or-right (bytes_eq r.0 k) (is_among r.0 ns) r.1, r.2))
     ]
 
-to_map : (g : Name → Name) (ns : List Name) (m : Name) → is_among m ns ≡ true → is_among (g m) (map g ns) ≡ true
+pub to_map : (g : Name → Name) (ns : List Name) (m : Name) → is_among m ns ≡ true → is_among (g m) (map g ns) ≡ true
 to_map g [] m q = cc
 to_map g (k ∷ ns) m q =
     elim (or_cases (bytes_eq m k) (is_among m ns) q) [
-      | inl p ↦ or_first (bytes_eq (g m) (g k)) (is_among (g m) (map g ns)) ((bytes_decides (g m) (g k)).1 (ap g ((bytes_decides m k).0 p)))
-      | inr p ↦ or_last (bytes_eq (g m) (g k)) (is_among (g m) (map g ns)) (to_map g ns m p)
+      | inl p ↦ or-left (bytes_eq (g m) (g k)) (is_among (g m) (map g ns)) ((bytes_decides (g m) (g k)).1 (ap g ((bytes_decides m k).0 p)))
+      | inr p ↦ or-right (bytes_eq (g m) (g k)) (is_among (g m) (map g ns)) (to_map g ns m p)
     ]
 
 counted_first : (n k : Name) (ns : List Name) → n ≡ k → times n (k ∷ ns) ≡ 1 + times n ns
@@ -43,7 +44,7 @@ counted_less n k ns = by (bytes_eq n k)
     by false = omega arith
 
 -- where a function's name stands once, it is that of one name
-told : (g : Name → Name) (ns : List Name) (m k : Name) → is_among m ns ≡ true → is_among k ns ≡ true → g m ≡ g k → times (g m) (map g ns) ≤ 1 → m ≡ k
+pub told : (g : Name → Name) (ns : List Name) (m k : Name) → is_among m ns ≡ true → is_among k ns ≡ true → g m ≡ g k → times (g m) (map g ns) ≤ 1 → m ≡ k
 told g [] m k p q e le = cc
 told g (j ∷ ns) m k p q e le = by (or_cases (bytes_eq m j) (is_among m ns) p) (or_cases (bytes_eq k j) (is_among k ns) q) (λ u v. told g ns m k u v e (let l = counted_less (g m) (g j) (map g ns) in omega arith))
   where
@@ -62,20 +63,20 @@ told g (j ∷ ns) m k p q e le = by (or_cases (bytes_eq m j) (is_among m ns) p) 
 once_under : (g : Name → Name) (ns : List Name) → ((n : Name) → times n ns ≤ 1) → ((m k : Name) → is_among m ns ≡ true → is_among k ns ≡ true → g m ≡ g k → m ≡ k) → (n : Name) → times n (map g ns) ≤ 1
 once_under g [] once apart n = omega arith
 once_under g (j ∷ ns) once apart n =
-    by (bytes_eq n (g j)) refl (once_under g ns (λ m. let l = counted_less m j ns in let o = once m in omega arith) (λ m k p q e. apart m k (or_last (bytes_eq m j) (is_among m ns) p) (or_last (bytes_eq k j) (is_among k ns) q) e) n) (cases_lt 0 (times n (map g ns)))
+    by (bytes_eq n (g j)) refl (once_under g ns (λ m. let l = counted_less m j ns in let o = once m in omega arith) (λ m k p q e. apart m k (or-right (bytes_eq m j) (is_among m ns) p) (or-right (bytes_eq k j) (is_among k ns) q) e) n) (cases_lt 0 (times n (map g ns)))
   where
     by : (b : Bool) → bytes_eq n (g j) ≡ b → times n (map g ns) ≤ 1 → (0 < times n (map g ns)) ⊎ (times n (map g ns) ≤ 0) → cond b 1 0 + times n (map g ns) ≤ 1
     by false p le c = omega arith
     by true p le (inr z) = omega arith
     by true p le (inl lt) =
         let r = from_map g ns n (times_among n (map g ns) (omega arith)) in
-        let is : j ≡ r.0 = apart j r.0 (or_first (bytes_eq j j) (is_among j ns) (same_self j)) (or_last (bytes_eq r.0 j) (is_among r.0 ns) r.1) (sym ((bytes_decides n (g j)).0 p) ∙ r.2) in
+        let is : j ≡ r.0 = apart j r.0 (or-left (bytes_eq j j) (is_among j ns) (same_self j)) (or-right (bytes_eq r.0 j) (is_among r.0 ns) r.1) (sym ((bytes_decides n (g j)).0 p) ∙ r.2) in
         let o = once j in
         let c = counted_first j j ns refl in
         let l = among_times j ns (ap (λ x. is_among x ns) is ∙ r.1) in
         absurd (omega arith)
 
-same_truth : (a b : Bool) → (a ≡ true → b ≡ true) → (b ≡ true → a ≡ true) → a ≡ b
+pub same_truth : (a b : Bool) → (a ≡ true → b ≡ true) → (b ≡ true → a ≡ true) → a ≡ b
 same_truth true b f g = sym (f refl)
 same_truth false true f g = g refl
 same_truth false false f g = refl
@@ -84,7 +85,7 @@ same_truth false false f g = refl
 abbrev pub renamed : Name → List Name → Name → Name
 renamed suffix taken m = cond (is_among m taken) (m ++ suffix) m
 
-suffixed_names : (suffix : Name) (taken : List Name) (s : Fields) → names_of (suffixed suffix taken s) ≡ map (renamed suffix taken) (names_of s)
+pub suffixed_names : (suffix : Name) (taken : List Name) (s : Fields) → names_of (suffixed suffix taken s) ≡ map (renamed suffix taken) (names_of s)
 suffixed_names suffix taken [] = refl
 suffixed_names suffix taken (x ∷ s) = ap (λ (ns : List Name). renamed suffix taken x.0 ∷ ns) (suffixed_names suffix taken s)
 
@@ -104,14 +105,14 @@ has_last (y ∷ s) t x h = inr (has_last s t x h)
 
 has_its_name : (s : Fields) (x : Name × DataType) → Has s x → is_among x.0 (names_of s) ≡ true
 has_its_name [] x h = absurd h
-has_its_name (y ∷ s) x (inl e) = or_first (bytes_eq x.0 y.0) (is_among x.0 (names_of s)) ((bytes_decides x.0 y.0).1 (ap (λ (f : Name × DataType). f.0) (sym e)))
-has_its_name (y ∷ s) x (inr h) = or_last (bytes_eq x.0 y.0) (is_among x.0 (names_of s)) (has_its_name s x h)
+has_its_name (y ∷ s) x (inl e) = or-left (bytes_eq x.0 y.0) (is_among x.0 (names_of s)) ((bytes_decides x.0 y.0).1 (ap (λ (f : Name × DataType). f.0) (sym e)))
+has_its_name (y ∷ s) x (inr h) = or-right (bytes_eq x.0 y.0) (is_among x.0 (names_of s)) (has_its_name s x h)
 
 -- both sides, one after the other
 abbrev pub merged : Name → Fields → Fields → Fields
 merged suffix l r = l ++ suffixed suffix (names_of l) r
 
-merged_names : (suffix : Name) (l r : Fields) → names_of (merged suffix l r) ≡ names_of l ++ map (renamed suffix (names_of l)) (names_of r)
+pub merged_names : (suffix : Name) (l r : Fields) → names_of (merged suffix l r) ≡ names_of l ++ map (renamed suffix (names_of l)) (names_of r)
 merged_names suffix l r = map-append (λ (x : Name × DataType). x.0) l (suffixed suffix (names_of l) r) ∙ ap (λ (ns : List Name). names_of l ++ ns) (suffixed_names suffix (names_of l) r)
 
 -- Sides and wider ones: what was known before is the same on both, and what isn't is new.
@@ -148,7 +149,7 @@ module _ (Before After : Name → Type 0) (suffix : Name) (l r wide_l wide_r : F
 
   -- the name of a known right field is one of the narrower sides'
   narrow_there : (m : Name) → is_among m (names_of r) ≡ true → is_among (narrow m) (names_of (merged suffix l r)) ≡ true
-  narrow_there m q = ap (is_among (narrow m)) (merged_names suffix l r) ∙ among_last (narrow m) (names_of l) (map narrow (names_of r)) (to_map narrow (names_of r) m q)
+  narrow_there m q = ap (is_among (narrow m)) (merged_names suffix l r) ∙ list_any-append (bytes_eq (narrow m)) (names_of l) (map narrow (names_of r)) ∙ or-right (is_among (narrow m) (names_of l)) (is_among (narrow m) (map narrow (names_of r))) (to_map narrow (names_of r) m q)
 
   count : (n : Name) → times n (names_of (merged suffix l r)) ≡ times n (names_of l) + times n (map narrow (names_of r))
   count n = ap (times n) (merged_names suffix l r) ∙ times_append n (names_of l) (map narrow (names_of r))

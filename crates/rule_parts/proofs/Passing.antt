@@ -8,16 +8,17 @@ use Rattle.std.proofs.lemmas.List.{map-append}
 use Rattle.ps_frame.proofs.Lists.{and_both}
 use Rattle.ps_frame.specs.Frames.{has_distinct_names, has_name}
 use Rattle.ps_frame.specs.Functions.{Functions}
-use Rattle.ps_frame.specs.Tables.{Fields}
+use Rattle.ps_frame.specs.Tables.{Fields, field_kind}
 use Rattle.ps_frame.specs.declared.expr.What.TheVariants as what
-use Rattle.ps_meaning.specs.Schemas.{fields_of, first_schema, is_among, named_fields, names_of, output_schema, put_fields, schema_or_empty}
+use Rattle.ps_frame.specs.declared.value.DataType.{DataType}
+use Rattle.ps_meaning.proofs.Begins.{or-left, or-right}
+use Rattle.ps_meaning.specs.Schemas.{both as both_of, fields_of, first_schema, is_among, named_fields, names_of, output_schema, put_fields, schema_or_empty}
 use Rattle.ps_meaning.specs.Shape.{negative_slice, streaming_slice}
 use Rattle.ps_meaning.specs.Sound.{BreaksNoRule, IsSoundButForReaders, have_all_kinds}
 use Rattle.ps_meaning.specs.StepRefusals.{Refusal, TypingRefused, column_not_found, duplicate, lacks_name, schema_mismatch, unsupported}
 use Rattle.ps_meaning.specs.Steps.{Cut, Name, Named, Step, cache, distinct, exprs_of, filter, group_by, hconcat, hstack, join, left_out, project, row_index, scan, select, sink, slice, sort, union, user}
 use Rattle.ps_rules.specs.Slots.{State, Stream}
-use Rattle.ps_shares.proofs.Projected.{named_as}
-use Rattle.ps_bundles.proofs.Reading.{has_fields, or_first, or_last}
+use Rattle.ps_shares.proofs.Projected.{kind_as, named_as}
 use Rattle.name_rules.proofs.Ruling.{typed_fields}
 use Rattle.name_rules.proofs.Times.{distinct_once, once_never}
 use Rattle.plan_rules.specs.Slices.{cut_stream, slice_stream}
@@ -49,10 +50,20 @@ all_stand ns s h = each ns (λ n k. k)
   where
     each : (ms : List Name) → ((n : Name) → is_among n ms ≡ true → is_among n ns ≡ true) → AllByRecursion (λ n. is_among n (names_of s) ≡ true) ms
     each [] inside = tt
-    each (m ∷ ms) inside = (stands m s (is_among m ns) (inside m (or_first (bytes_eq m m) (is_among m ms) ((bytes_decides m m).1 refl))) (h m), each ms (λ n k. inside n (or_last (bytes_eq n m) (is_among n ms) k)))
+    each (m ∷ ms) inside = (stands m s (is_among m ns) (inside m (or-left (bytes_eq m m) (is_among m ms) ((bytes_decides m m).1 refl))) (h m), each ms (λ n k. inside n (or-right (bytes_eq n m) (is_among n ms) k)))
+
+-- so they are found
+found_there : (ns : List Name) (s : Fields) → AllByRecursion (λ n. is_among n (names_of s) ≡ true) ns → is_some (named_fields ns s) ≡ true
+found_there [] s all = refl
+found_there (n ∷ ns) s all = by (field_kind n s) (named_fields ns s) (kind_as n s ∙ sym (named_as n s) ∙ all.0) (found_there ns s all.1)
+  where
+    by : (o : Option DataType) (r : Option Fields) → is_some o ≡ true → is_some r ≡ true → is_some (both_of (λ (k : DataType) (fs : Fields). (n, k) ∷ fs) o r) ≡ true
+    by (Some k) (Some fs) p q = refl
+    by (Some k) None p q = let no : false ≡ true = q in cc
+    by None r p q = let no : false ≡ true = p in cc
 
 named_there : (ns : List Name) (s : Fields) → ((n : Name) → lacks_name n s ns ≡ true → ⊥) → named_fields ns s ≡ Some (unwrap_or (named_fields ns s) [])
-named_there ns s h = let r = has_fields ns s (all_stand ns s h) in r.found ∙ ap (λ o. Some (unwrap_or o [])) (sym r.found)
+named_there ns s h = is_there (named_fields ns s) (found_there ns s (all_stand ns s h))
 
 pub both_exprs : (xs ys : List Named) → exprs_of (xs ++ ys) ≡ exprs_of xs ++ exprs_of ys
 both_exprs xs ys = map-append (λ (e : Named). e.1) xs ys

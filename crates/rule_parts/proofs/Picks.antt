@@ -10,14 +10,13 @@ use Rattle.ps_frame.specs.Tables.{Fields, field_kind}
 use Rattle.ps_frame.specs.Trees.{Tree}
 use Rattle.ps_frame.specs.Typing.{is_elementwise, is_independent, kind_over}
 use Rattle.ps_frame.specs.declared.value.DataType.{DataType}
+use Rattle.ps_meaning.proofs.Begins.{or-left, or-right}
 use Rattle.ps_meaning.specs.Schemas.{both as both_of, expr_names, fields_of, is_among, names_of, put_field, put_fields}
 use Rattle.ps_meaning.specs.StepRefusals.{repeats}
 use Rattle.ps_meaning.specs.Steps.{Name, Named, exprs_of}
 use Rattle.ps_rules.specs.Slots.{under}
 use Rattle.ps_shares.proofs.Members.{Has}
 use Rattle.ps_shares.proofs.Projected.{named_as}
-use Rattle.ps_bundles.proofs.Reading.{or_first, or_last}
-use Rattle.ps_bundles.proofs.ZipEnds.{differ}
 use Rattle.name_rules.specs.Lawful.{Differ}
 use Rattle.plan_rules.specs.Nodes.{expr_or_column}
 use Rattle.rule_parts.proofs.Positions.{AllFollow}
@@ -30,11 +29,11 @@ turned a b q = by (bytes_eq b a) refl
   where
     by : (c : Bool) → bytes_eq b a ≡ c → bytes_eq b a ≡ false
     by false r = r
-    by true r = absurd (differ (sym ((bytes_decides a b).1 (sym ((bytes_decides b a).0 r))) ∙ q))
+    by true r = absurd (let no : true ≡ false = sym ((bytes_decides a b).1 (sym ((bytes_decides b a).0 r))) ∙ q in cc)
 
 pub or_parts : (a b : Bool) → (a || b) ≡ false → (a ≡ false) × (b ≡ false)
 or_parts false b q = (refl, q)
-or_parts true b q = absurd (differ q)
+or_parts true b q = absurd (let no : true ≡ false = q in cc)
 
 pub at_has : {A : Type 0} (P : A → Type 0) (xs : List A) (x : A) → AllByRecursion P xs → Has xs x → P x
 at_has P [] x all h = absurd h
@@ -59,7 +58,7 @@ differ_first n ns d = by (is_among n ns) refl
     by true q = absurd (d n (ap (λ b. (b && is_among n ns) || repeats n ns) (same_self n) ∙ ap (λ b. b || repeats n ns) q))
 
 pub differ_rest : (n : Name) (ns : List Name) → Differ (n ∷ ns) → Differ ns
-differ_rest n ns d m r = d m (or_last (bytes_eq m n && is_among m ns) (repeats m ns) r)
+differ_rest n ns d m r = d m (or-right (bytes_eq m n && is_among m ns) (repeats m ns) r)
 
 -- of different names each is found
 abbrev pub Found : List Named → List Named → Type 0
@@ -138,7 +137,7 @@ pub record SomeReads (ms : List Named) : Type 0 where
   pub reads : is_independent item.1 ≡ false
 
 pub some_reads : (es : List Named) (xs : List Tree) → AllFollow (exprs_of es) xs → list_all is_elementwise (exprs_of es) ≡ false → SomeReads (under (expr_names es) xs)
-some_reads [] xs h q = absurd (differ q)
+some_reads [] xs h q = absurd (let no : true ≡ false = q in cc)
 some_reads (e ∷ es) [] h q = absurd h
 some_reads (e ∷ es) (x ∷ xs) h q = by (is_elementwise e.1) refl q (some_reads es xs h.1)
   where
@@ -155,32 +154,32 @@ any_pick g n [] h q = cc
 any_pick g n (m ∷ ns) h q = by (bytes_eq n m) refl h (any_pick g n ns)
   where
     by : (b : Bool) → bytes_eq n m ≡ b → (b || is_among n ns) ≡ true → (is_among n ns ≡ true → is_independent (g n) ≡ false → list_any (λ e. not (is_independent e)) (map g ns) ≡ true) → (not (is_independent (g m)) || list_any (λ e. not (is_independent e)) (map g ns)) ≡ true
-    by true p h more = or_first (not (is_independent (g m))) (list_any (λ e. not (is_independent e)) (map g ns)) (ap (λ k. not (is_independent (g k))) (sym ((bytes_decides n m).0 p)) ∙ ap not q)
-    by false p h more = or_last (not (is_independent (g m))) (list_any (λ e. not (is_independent e)) (map g ns)) (more h q)
+    by true p h more = or-left (not (is_independent (g m))) (list_any (λ e. not (is_independent e)) (map g ns)) (ap (λ k. not (is_independent (g k))) (sym ((bytes_decides n m).0 p)) ∙ ap not q)
+    by false p h more = or-right (not (is_independent (g m))) (list_any (λ e. not (is_independent e)) (map g ns)) (more h q)
 
 pub has_name_of : (ms : List Named) (a : Named) → Has ms a → is_among a.0 (expr_names ms) ≡ true
 has_name_of [] a h = absurd h
-has_name_of (b ∷ ms) a (inl e) = or_first (bytes_eq a.0 b.0) (is_among a.0 (expr_names ms)) ((bytes_decides a.0 b.0).1 (ap (λ (x : Named). x.0) (sym e)))
-has_name_of (b ∷ ms) a (inr h) = or_last (bytes_eq a.0 b.0) (is_among a.0 (expr_names ms)) (has_name_of ms a h)
+has_name_of (b ∷ ms) a (inl e) = or-left (bytes_eq a.0 b.0) (is_among a.0 (expr_names ms)) ((bytes_decides a.0 b.0).1 (ap (λ (x : Named). x.0) (sym e)))
+has_name_of (b ∷ ms) a (inr h) = or-right (bytes_eq a.0 b.0) (is_among a.0 (expr_names ms)) (has_name_of ms a h)
 
 -- fields that are put into others are among them, and so are the others' names
 put_new : (g : Name × DataType) (f : Fields) → is_among g.0 (names_of (put_field g f)) ≡ true
-put_new g [] = or_first (bytes_eq g.0 g.0) false (same_self g.0)
+put_new g [] = or-left (bytes_eq g.0 g.0) false (same_self g.0)
 put_new g (h ∷ f) = by (bytes_eq g.0 h.0) (put_new g f)
   where
     by : (b : Bool) → is_among g.0 (names_of (put_field g f)) ≡ true → is_among g.0 (names_of (cond b (g ∷ f) (h ∷ put_field g f))) ≡ true
-    by true k = or_first (bytes_eq g.0 g.0) (is_among g.0 (names_of f)) (same_self g.0)
-    by false k = or_last (bytes_eq g.0 h.0) (is_among g.0 (names_of (put_field g f))) k
+    by true k = or-left (bytes_eq g.0 g.0) (is_among g.0 (names_of f)) (same_self g.0)
+    by false k = or-right (bytes_eq g.0 h.0) (is_among g.0 (names_of (put_field g f))) k
 
 put_old : (g : Name × DataType) (f : Fields) (n : Name) → is_among n (names_of f) ≡ true → is_among n (names_of (put_field g f)) ≡ true
 put_old g [] n h = cc
 put_old g (x ∷ f) n h = by (bytes_eq g.0 x.0) refl (bytes_eq n x.0) refl h (put_old g f n)
   where
     by : (b : Bool) → bytes_eq g.0 x.0 ≡ b → (c : Bool) → bytes_eq n x.0 ≡ c → (c || is_among n (names_of f)) ≡ true → (is_among n (names_of f) ≡ true → is_among n (names_of (put_field g f)) ≡ true) → is_among n (names_of (cond b (g ∷ f) (x ∷ put_field g f))) ≡ true
-    by true p true q h more = or_first (bytes_eq n g.0) (is_among n (names_of f)) ((bytes_decides n g.0).1 ((bytes_decides n x.0).0 q ∙ sym ((bytes_decides g.0 x.0).0 p)))
-    by true p false q h more = or_last (bytes_eq n g.0) (is_among n (names_of f)) h
-    by false p true q h more = or_first (bytes_eq n x.0) (is_among n (names_of (put_field g f))) q
-    by false p false q h more = or_last (bytes_eq n x.0) (is_among n (names_of (put_field g f))) (more h)
+    by true p true q h more = or-left (bytes_eq n g.0) (is_among n (names_of f)) ((bytes_decides n g.0).1 ((bytes_decides n x.0).0 q ∙ sym ((bytes_decides g.0 x.0).0 p)))
+    by true p false q h more = or-right (bytes_eq n g.0) (is_among n (names_of f)) h
+    by false p true q h more = or-left (bytes_eq n x.0) (is_among n (names_of (put_field g f))) q
+    by false p false q h more = or-right (bytes_eq n x.0) (is_among n (names_of (put_field g f))) (more h)
 
 puts_old : (gs f : Fields) (n : Name) → is_among n (names_of f) ≡ true → is_among n (names_of (put_fields f gs)) ≡ true
 puts_old [] f n h = h

@@ -14,7 +14,6 @@ use Rattle.ps_rules.specs.Lowered.{as_operand, lower, lower_exprs, operands}
 use Rattle.ps_rules.specs.Rules.{aggregated, apart_from_input, filtered_column, first_tree, over_input, over_operands, reduced_apart, reduced_column, sorted_by, sorted_column, stays, stays_or, together}
 use Rattle.ps_rules.specs.Slots.{State, Stream, columns_named, new_name}
 use Rattle.ps_shares.proofs.Growing.{binary_of, cast_of, gathered_exprs, ternary_of}
-use Rattle.ps_bundles.proofs.ZipEnds.{differ}
 use Rattle.name_rules.proofs.Listing.{and_true, columns_read, count_columns, either_false}
 use Rattle.name_rules.proofs.Items.{operands_listed}
 
@@ -39,7 +38,7 @@ and_false : (a b : Bool) → a ≡ false → (a && b) ≡ false
 and_false a b q = ap (λ x. x && b) q
 
 follow_reads : (es xs : List Tree) → AllFollow es xs → all_independent es ≡ false → all_independent xs ≡ false
-follow_reads [] xs h q = absurd (differ q)
+follow_reads [] xs h q = absurd (let no : true ≡ false = q in cc)
 follow_reads (e ∷ es) [] h q = absurd h
 follow_reads (e ∷ es) (x ∷ xs) h q = either_false (is_independent e) (all_independent es) (is_independent x) (all_independent xs) (λ k. h.0.reads (and_false (is_independent e) (is_elementwise e) k)) (follow_reads es xs h.1) q
 

@@ -14,13 +14,13 @@ use Rattle.ps_frame.specs.declared.expr.Operator.{Operator}
 use Rattle.ps_frame.specs.declared.value.DataType.{DataType}
 use Rattle.ps_frame.specs.declared.value.DataType.TheVariants as kind
 use Rattle.ps_typing.proofs.Parts.{of-cast, of-condition, of-falsy, of-function, of-left, of-right, of-truthy, own-part}
+use Rattle.ps_meaning.proofs.Begins.{or-right}
 use Rattle.ps_meaning.specs.Schemas.{expr_names}
 use Rattle.ps_meaning.specs.Sound.{IsReduction, have_all_kinds}
 use Rattle.ps_meaning.specs.Steps.{Name, Named, exprs_of}
 use Rattle.ps_plan.proofs.Complete.{all-both}
 use Rattle.ps_rules.specs.Names.{Names, fresh_name}
 use Rattle.ps_shares.proofs.Fresh.{Grown, grown_fresh, grown_same, grown_then}
-use Rattle.ps_bundles.proofs.Reading.{or_last}
 use Rattle.name_rules.proofs.Items.{times_items}
 use Rattle.name_rules.proofs.Times.{FreshOnce, fewer_fresh, none_fresh, one_fresh, then_fresh, times}
 use Rattle.plan_rules.specs.Reductions.{Apart, Split, aggregate_apart, is_made_of_reductions, is_mergeable, taken_apart, under_fresh_name, with_aggregate}
@@ -390,4 +390,4 @@ module _ (f : Fields) where
       let rest = list_any (some_part is_literal_aggregate) (exprs_of es) in
       let p = one_split name e s (record { made = m.0; typed = t.0; literal = λ q. w.literal (ap (λ b. b || rest) q) }) in
       let u = with_aggregate s (name, e) in
-      splits_then (name, e) es s u (fold with_aggregate u es) p (splits es u (record { made = m.1; typed = t.1; literal = λ q. w.literal (or_last (some_part is_literal_aggregate e) rest q) }))
+      splits_then (name, e) es s u (fold with_aggregate u es) p (splits es u (record { made = m.1; typed = t.1; literal = λ q. w.literal (or-right (some_part is_literal_aggregate e) rest q) }))

@@ -11,6 +11,7 @@ use Rattle.ps_frame.specs.Trees.{Tree}
 use Rattle.ps_frame.specs.Typing.{kind_over}
 use Rattle.ps_frame.specs.Values.{same_kind}
 use Rattle.ps_frame.specs.declared.value.DataType.{DataType}
+use Rattle.ps_meaning.proofs.Begins.{or-left, or-right}
 use Rattle.ps_meaning.specs.Joins.{goes_by_left}
 use Rattle.ps_meaning.specs.Schemas.{bare_names, is_among, left_part, names_of, right_part, without}
 use Rattle.ps_meaning.specs.StepRefusals.{pairs_differ}
@@ -20,7 +21,6 @@ use Rattle.ps_meaning.specs.declared.options.JoinType.TheVariants as how
 use Rattle.ps_rules.specs.Names.{IsKnown, Names}
 use Rattle.ps_shares.specs.Leaves.{put_back, stands_for}
 use Rattle.ps_shares.proofs.Members.{Has}
-use Rattle.ps_bundles.proofs.Reading.{or_first, or_last}
 use Rattle.name_rules.proofs.Times.{times}
 use Rattle.rule_parts.proofs.Picks.{same_self}
 
@@ -70,8 +70,8 @@ kind_has n k (x ∷ s) q = by (bytes_eq n x.0) refl q (kind_has n k s)
 
 has_name_in : (s : Fields) (x : Name × DataType) → Has s x → is_among x.0 (names_of s) ≡ true
 has_name_in [] x h = absurd h
-has_name_in (y ∷ s) x (inl e) = or_first (bytes_eq x.0 y.0) (is_among x.0 (names_of s)) ((bytes_decides x.0 y.0).1 (ap (λ (f : Name × DataType). f.0) (sym e)))
-has_name_in (y ∷ s) x (inr h) = or_last (bytes_eq x.0 y.0) (is_among x.0 (names_of s)) (has_name_in s x h)
+has_name_in (y ∷ s) x (inl e) = or-left (bytes_eq x.0 y.0) (is_among x.0 (names_of s)) ((bytes_decides x.0 y.0).1 (ap (λ (f : Name × DataType). f.0) (sym e)))
+has_name_in (y ∷ s) x (inr h) = or-right (bytes_eq x.0 y.0) (is_among x.0 (names_of s)) (has_name_in s x h)
 
 -- without some names
 without_has : (ns : List Name) (s : Fields) (x : Name × DataType) → Has s x → is_among x.0 ns ≡ false → Has (without ns s) x
@@ -93,30 +93,30 @@ without_from ns (y ∷ s) x h = by (is_among y.0 ns) refl h (without_from ns s x
     by false p (inl e) more = (inl e, ap (λ (f : Name × DataType). is_among f.0 ns) (sym e) ∙ p)
     by false p (inr h) more = let r = more h in (inr r.0, r.1)
 
-without_in : (ns : List Name) (s : Fields) (n : Name) → is_among n (names_of (without ns s)) ≡ true → (is_among n (names_of s) ≡ true) × (is_among n ns ≡ false)
+pub without_in : (ns : List Name) (s : Fields) (n : Name) → is_among n (names_of (without ns s)) ≡ true → (is_among n (names_of s) ≡ true) × (is_among n ns ≡ false)
 without_in ns [] n h = cc
 without_in ns (y ∷ s) n h = by (is_among y.0 ns) refl h (without_in ns s n)
   where
     later : (is_among n (names_of s) ≡ true) × (is_among n ns ≡ false) → (is_among n (names_of (y ∷ s)) ≡ true) × (is_among n ns ≡ false)
-    later r = (or_last (bytes_eq n y.0) (is_among n (names_of s)) r.0, r.1)
+    later r = (or-right (bytes_eq n y.0) (is_among n (names_of s)) r.0, r.1)
 
     by : (b : Bool) → is_among y.0 ns ≡ b → is_among n (names_of (cond (not b) (y ∷ without ns s) (without ns s))) ≡ true → (is_among n (names_of (without ns s)) ≡ true → (is_among n (names_of s) ≡ true) × (is_among n ns ≡ false)) → (is_among n (names_of (y ∷ s)) ≡ true) × (is_among n ns ≡ false)
     by true p h more = later (more h)
     by false p h more =
         elim (or_cases (bytes_eq n y.0) (is_among n (names_of (without ns s))) h) [
-          | inl k ↦ (or_first (bytes_eq n y.0) (is_among n (names_of s)) k, ap (λ m. is_among m ns) ((bytes_decides n y.0).0 k) ∙ p)
+          | inl k ↦ (or-left (bytes_eq n y.0) (is_among n (names_of s)) k, ap (λ m. is_among m ns) ((bytes_decides n y.0).0 k) ∙ p)
           | inr k ↦ later (more k)
         ]
 
-without_there : (ns : List Name) (s : Fields) (n : Name) → is_among n (names_of s) ≡ true → is_among n ns ≡ false → is_among n (names_of (without ns s)) ≡ true
+pub without_there : (ns : List Name) (s : Fields) (n : Name) → is_among n (names_of s) ≡ true → is_among n ns ≡ false → is_among n (names_of (without ns s)) ≡ true
 without_there ns [] n h q = cc
 without_there ns (y ∷ s) n h q = by (is_among y.0 ns) refl (or_cases (bytes_eq n y.0) (is_among n (names_of s)) h) (without_there ns s n)
   where
     by : (b : Bool) → is_among y.0 ns ≡ b → (bytes_eq n y.0 ≡ true) ⊎ (is_among n (names_of s) ≡ true) → (is_among n (names_of s) ≡ true → is_among n ns ≡ false → is_among n (names_of (without ns s)) ≡ true) → is_among n (names_of (cond (not b) (y ∷ without ns s) (without ns s))) ≡ true
     by true p (inl k) more = let w : true ≡ false = sym p ∙ ap (λ m. is_among m ns) (sym ((bytes_decides n y.0).0 k)) ∙ q in cc
     by true p (inr k) more = more k q
-    by false p (inl k) more = or_first (bytes_eq n y.0) (is_among n (names_of (without ns s))) k
-    by false p (inr k) more = or_last (bytes_eq n y.0) (is_among n (names_of (without ns s))) (more k q)
+    by false p (inl k) more = or-left (bytes_eq n y.0) (is_among n (names_of (without ns s))) k
+    by false p (inr k) more = or-right (bytes_eq n y.0) (is_among n (names_of (without ns s))) (more k q)
 
 without_few : (ns : List Name) (s : Fields) (n : Name) → times n (names_of (without ns s)) ≤ times n (names_of s)
 without_few ns [] n = omega arith
@@ -136,10 +136,10 @@ bare_first (Tree.column m) xs n h = elim (or_cases (bytes_eq n m) (is_among n (b
 bare_first _ xs n h = inr h
 
 bare_here : (x : Tree) (xs : List Tree) (n : Name) → x ≡ Tree.column n → is_among n (bare_names (x ∷ xs)) ≡ true
-bare_here x xs n e = subst (λ (y : Tree). is_among n (bare_names (y ∷ xs)) ≡ true) (sym e) (or_first (bytes_eq n n) (is_among n (bare_names xs)) (same_self n))
+bare_here x xs n e = subst (λ (y : Tree). is_among n (bare_names (y ∷ xs)) ≡ true) (sym e) (or-left (bytes_eq n n) (is_among n (bare_names xs)) (same_self n))
 
 bare_later : (x : Tree) (xs : List Tree) (n : Name) → is_among n (bare_names xs) ≡ true → is_among n (bare_names (x ∷ xs)) ≡ true
-bare_later (Tree.column m) xs n h = or_last (bytes_eq n m) (is_among n (bare_names xs)) h
+bare_later (Tree.column m) xs n h = or-right (bytes_eq n m) (is_among n (bare_names xs)) h
 bare_later _ xs n h = h
 
 -- where one list has a bare column the other has it

@@ -59,6 +59,29 @@ module _ (F : Functions) (at : ℕ) (input : Stream) (s : State) where
       let kept = plain_keeps F at (filter predicate) (filter_node predicate) (schema_at s.nodes input) (input ∷ []) refl (λ ts. refl) refl s in
       subst (λ (m : Made). KeepsStep F at (filter predicate) s m.state (input ∷ []) m.stream) (sym (filter_made predicate cells some)) kept
 
+-- what a join gives before its slice, and its schema, are those of the join without it
+module _ (F : Functions) (at : ℕ) (o : JoinStep) where
+  abbrev of_type : JoinType → Cut → JoinStep
+  of_type type cut = record o { args = record o.args { how = type; slice = cut } }
+
+  pub uncut_gives : (type : JoinType) (cut : Cut) (ts : List Table) (U : Table) → GivesBeforeCut F at (join (of_type type None)) ts U → GivesBeforeCut F at (join (of_type type cut)) ts U
+  uncut_gives how.Inner cut ts U g = g
+  uncut_gives how.Left cut ts U g = g
+  uncut_gives how.Right cut ts U g = g
+  uncut_gives how.Full cut ts U g = g
+  uncut_gives how.Semi cut ts U g = g
+  uncut_gives how.Anti cut ts U g = g
+  uncut_gives how.Cross cut ts U g = g
+
+  pub uncut_schema : (type : JoinType) (cut : Cut) (a b : Fields) → join_schema (of_type type cut) a b ≡ join_schema (of_type type None) a b
+  uncut_schema how.Inner cut a b = refl
+  uncut_schema how.Left cut a b = refl
+  uncut_schema how.Right cut a b = refl
+  uncut_schema how.Full cut a b = refl
+  uncut_schema how.Semi cut a b = refl
+  uncut_schema how.Anti cut a b = refl
+  uncut_schema how.Cross cut a b = refl
+
 module _ (F : Functions) (at : ℕ) (o : JoinStep) (schema : Fields) (l r : Stream) (s : State) where
   abbrev lefts : List Tree
   lefts = columns_over l s
@@ -76,28 +99,6 @@ module _ (F : Functions) (at : ℕ) (o : JoinStep) (schema : Fields) (l r : Stre
   abbrev Kept : Made → Type 0
   Kept m = KeepsStep F at (join o) s m.state (l ∷ r ∷ []) m.stream
 
-  -- what a join gives before its slice, and its schema, are those of the join without it
-  abbrev of_type : JoinType → Cut → JoinStep
-  of_type type cut = record o { args = record o.args { how = type; slice = cut } }
-
-  uncut_gives : (type : JoinType) (cut : Cut) (ts : List Table) (U : Table) → GivesBeforeCut F at (join (of_type type None)) ts U → GivesBeforeCut F at (join (of_type type cut)) ts U
-  uncut_gives how.Inner cut ts U g = g
-  uncut_gives how.Left cut ts U g = g
-  uncut_gives how.Right cut ts U g = g
-  uncut_gives how.Full cut ts U g = g
-  uncut_gives how.Semi cut ts U g = g
-  uncut_gives how.Anti cut ts U g = g
-  uncut_gives how.Cross cut ts U g = g
-
-  uncut_schema : (type : JoinType) (cut : Cut) (a b : Fields) → join_schema (of_type type cut) a b ≡ join_schema (of_type type None) a b
-  uncut_schema how.Inner cut a b = refl
-  uncut_schema how.Left cut a b = refl
-  uncut_schema how.Right cut a b = refl
-  uncut_schema how.Full cut a b = refl
-  uncut_schema how.Semi cut a b = refl
-  uncut_schema how.Anti cut a b = refl
-  uncut_schema how.Cross cut a b = refl
-
   pub join_made : goes_by_left o.args.how ≡ true → list_all is_elementwise o.left_on ≡ true → list_all is_elementwise o.right_on ≡ true → schema_at s.nodes l ≢ [] → schema_at s.nodes r ≢ [] → join_stream at o schema l r s ≡ joined o.left_on o.right_on l r s
   join_made keyed cl cr sl sr =
       let el = stays_alone at l (o.left_on ++ lefts) (by_cell_both o.left_on lefts cl (columns_cells (names_of (schema_at s.nodes l)))) (some_later o.left_on lefts (columns_read (schema_at s.nodes l) sl)) s in
@@ -110,7 +111,7 @@ module _ (F : Functions) (at : ℕ) (o : JoinStep) (schema : Fields) (l r : Stre
   pub keyed_joins_keep : goes_by_left o.args.how ≡ true → list_all is_elementwise o.left_on ≡ true → list_all is_elementwise o.right_on ≡ true → schema_at s.nodes l ≢ [] → schema_at s.nodes r ≢ []
       → schema ≡ join_schema o (schema_there (slice_get s.nodes l.0)) (schema_there (slice_get s.nodes r.0)) → has_distinct_names schema ≡ true → IsKeptStep F at (join o) schema (l ∷ r ∷ []) s
   keyed_joins_keep keyed cl cr sl sr is distinct =
-      let node = node_keeps F at (join uncut) (equi_join uncut) schema (l ∷ r ∷ []) refl (λ ts. refl) s (same_narrowed F at uncut schema l r s (is ∙ uncut_schema o.args.how o.args.slice (schema_there (slice_get s.nodes l.0)) (schema_there (slice_get s.nodes r.0))) distinct) in
+      let node = node_keeps F at (join uncut) (equi_join uncut) schema (l ∷ r ∷ []) refl (λ ts. refl) s (same_narrowed F at uncut schema l r s (is ∙ uncut_schema F at o o.args.how o.args.slice (schema_there (slice_get s.nodes l.0)) (schema_there (slice_get s.nodes r.0))) distinct) in
       let m = over_both at (equi_join uncut) schema l r s in
-      let kept = cut_keeps F at (join uncut) (join o) (uncut_gives o.args.how o.args.slice) (λ ts large. large) refl s m.state (l ∷ r ∷ []) m.stream node o.args.slice refl in
+      let kept = cut_keeps F at (join uncut) (join o) (uncut_gives F at o o.args.how o.args.slice) (λ ts large. large) refl s m.state (l ∷ r ∷ []) m.stream node o.args.slice refl in
       subst Kept (sym (join_made keyed cl cr sl sr)) kept
