@@ -1,5 +1,4 @@
-// What trials of a graph's nodes are written in: scripts of updates with the answers that are wanted, and what nodes are made of.
+// What trials of a graph's nodes are written in: scripts of updates with the answers that are wanted.
 #![tactic(auto)]
 
-pub mod fixtures;
 pub mod script;

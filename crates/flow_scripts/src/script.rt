@@ -3,64 +3,9 @@ ghost use Rattle.std.specs.Prelude.{◌≡◌, OnOk};
 ghost use Rattle.flow_scripts.specs.Followed.{SameCounts};
 
 use ps_graph::compute_node::ComputeNode;
-use ps_ports::port_state::PortState;
 use std::alloc::Global;
 use std::test::Fail;
-
-fn state(letter: char) -> Result<PortState, Fail> {
-    match letter {
-        'B' => Ok(PortState::Blocked),
-        'R' => Ok(PortState::Ready),
-        'D' => Ok(PortState::Done),
-        _ => Err(Fail::from("no state")),
-    }
-}
-
-// A letter for each port: blocked, ready or done.
-fn states(alloc: Global, letters: &str) -> Result<Vec<PortState>, Fail> {
-    let mut states = Vec::new(alloc);
-    for letter in letters.chars() {
-        states.push(state(letter)?)?;
-    }
-    Ok(states)
-}
-
-fn push_states(text: &mut String, states: &[PortState]) -> Result<(), Fail> {
-    for state in states {
-        let letter = match state {
-            PortState::Blocked => "B",
-            PortState::Ready => "R",
-            PortState::Done => "D",
-        };
-        text.push_str(letter)?;
-    }
-    Ok(())
-}
-
-// The states of a node's ports: of its inputs, and behind `/` of its outputs.
-#[derive(Drop)]
-struct Given {
-    recv: Vec<PortState>,
-    send: Vec<PortState>,
-}
-
-fn read(alloc: Global, text: &str) -> Result<Given, Fail> {
-    let Some((recv, send)) = text.split_once("/") else {
-        return Err(Fail::from("states of one side alone"));
-    };
-    Ok(Given {
-        recv: states(alloc, recv)?,
-        send: states(alloc, send)?,
-    })
-}
-
-fn told(alloc: Global, recv: &[PortState], send: &[PortState]) -> Result<String, Fail> {
-    let mut text = String::new(alloc);
-    push_states(&mut text, recv)?;
-    text.push_str("/")?;
-    push_states(&mut text, send)?;
-    Ok(text)
-}
+use turn_scripts::letters::{compare, read};
 
 // One update: the node is given these states, and must answer those.
 fn update<N: ComputeNode>(
@@ -75,20 +20,13 @@ fn update<N: ComputeNode>(
     ensures ports { OnOk result (N.HasPorts node.new inputs outputs) }
     ensures same { OnOk result (SameCounts N.Update node.old node.new) }
 {
-    let mut given = read(alloc, states)?;
-    if given.recv.len() != inputs || given.send.len() != outputs {
-        return Err(Fail::from("not as many states as ports"));
-    }
+    let mut given = read(alloc, states, inputs, outputs)?;
     let (recv, send) = (given.recv.as_mut_slice(), given.send.as_mut_slice());
     match node.update_state(alloc, recv, send) {
         Ok(()) => (),
         Err(_error) => return Err(Fail::from("no answer")),
     }
-    let answer = told(alloc, given.recv.as_slice(), given.send.as_slice())?;
-    if answer.as_str() != wanted {
-        return Err(Fail::new(format_args!("{states} gives {answer}, not {wanted}")));
-    }
-    Ok(())
+    compare(alloc, states, &given, wanted)
 }
 
 /// One update after the other: the states that the node is given, and behind ` -> ` those that it must answer, as in

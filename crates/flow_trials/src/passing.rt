@@ -1,5 +1,4 @@
 // Nodes with one input and one output that keep nothing: what they answer to each pair of states.
-use flow_scripts::fixtures::{column, schema};
 use flow_scripts::script::hold;
 use ps_nodes::filter::FilterNode;
 use ps_nodes::flow::FlowNode;
@@ -11,6 +10,7 @@ use ps_nodes::slice::StreamingSliceNode;
 use pu_base::PlSmallStr;
 use std::alloc::Global;
 use std::test::Fail;
+use turn_scripts::fixtures::{column, schema};
 
 // The input gets what the reader says, the reader what the input says; what is given as done stays done.
 const PASSES: &str = "

@@ -1,5 +1,4 @@
 // Sources and sinks: what they answer to each state of their one port.
-use flow_scripts::fixtures::{options, schema, table};
 use flow_scripts::script::hold;
 use ps_nodes::flow::FlowNode;
 use ps_nodes::sequence::MorselSeq;
@@ -7,6 +6,7 @@ use ps_nodes::sink::InMemorySinkNode;
 use ps_nodes::source::InMemorySourceNode;
 use std::alloc::Global;
 use std::test::Fail;
+use turn_scripts::fixtures::{options, schema, table};
 
 // Ready until the reader is done.
 const READY: &str = "

@@ -2,7 +2,7 @@
 use Rattle.std.proofs.Common.{◌≡◌, ◌<◌, ℕ, refl, sym, ap, subst, inl, ◌∷◌, []}
 use Rattle.ps_frame.specs.Tables.{Fields}
 use Rattle.ps_meaning.specs.Steps.{Step, user}
-use Rattle.ps_node_eval.specs.Ready.{IsReadyFor}
+use Rattle.ready_steps.specs.Ready.{IsReadyFor}
 use Rattle.ps_nodes.specs.Seen.{HasInputsOf}
 use Rattle.ps_nodes.specs.declared.flow.FlowNode.TheVariants as flow
 use Rattle.ps_nodes.specs.declared.in_memory_map.InMemoryMapNode.{InMemoryMapNode}

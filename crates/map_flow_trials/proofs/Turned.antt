@@ -15,7 +15,7 @@ use Rattle.ps_owned_maps.specs.Owned.{step_of}
 use Rattle.ps_ports.specs.Ports.{Sides}
 use Rattle.turn_laws.proofs.Turned.{turn_leaves}
 use Rattle.turn_laws.specs.Updating.{SeenNode}
-use Rattle.map_flow_trials.specs.Shown.{Shown, numbers, over_numbers, shown_of}
+use Rattle.map_flow_trials.specs.Shown.{numbers, over_numbers, shown_of}
 
 abbrev map-in : PhysicalKind → Step
 map-in (in_memory_map step) = step

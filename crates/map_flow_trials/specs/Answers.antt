@@ -1,5 +1,5 @@
 -- What the functions of the tests answer.
-use Rattle.std.proofs.Common.{◌≡◌, ℕ, zero, suc, Option, Some, None, false, refl, ap, subst}
+use Rattle.std.proofs.Common.{◌≡◌, ℕ, zero, suc, Option, Some, None, false, ap, subst}
 use Rattle.std.specs.Prelude.{List, [], ◌∷◌, take}
 use Rattle.std.specs.List.{AllByRecursion}
 use Rattle.std.proofs.lemmas.Bool.{false≢true}

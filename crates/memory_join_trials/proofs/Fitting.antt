@@ -1,5 +1,5 @@
 -- Joins that are made, fed, claimed and told have the ports of their kind.
-use Rattle.std.proofs.Common.{◌≡◌, ◌+◌, ℕ, List, [], ◌∷◌, refl, sym, ap, subst}
+use Rattle.std.proofs.Common.{◌≡◌, ◌+◌, ℕ, refl, sym, ap, subst}
 use Rattle.made_tables.specs.Joinable.{CanJoin}
 use Rattle.ps_frame.specs.Lawful.{stacked}
 use Rattle.ps_frame.specs.Tables.{Fields, Frame}

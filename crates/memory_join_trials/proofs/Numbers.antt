@@ -1,8 +1,8 @@
 -- The number that is read off a column, as a tree of its arena.
-use Rattle.std.proofs.Common.{◌≡◌, List, [], ◌∷◌, refl, sym, ap, subst, ◌∙◌}
+use Rattle.std.proofs.Common.{◌≡◌, List, refl, sym, ap, subst, ◌∙◌}
 use Rattle.ps_frame.specs.Trees.{IsComplete, IsExpression, tree_at, tree_within}
 use Rattle.ps_frame.specs.declared.expr.AExpr.{AExpr}
-use Rattle.ps_meaning.specs.Steps.{Named, name_in}
+use Rattle.ps_meaning.specs.Steps.{name_in}
 use Rattle.ps_meaning.specs.declared.options.ExprIR.{ExprIR}
 use Rattle.memory_join_trials.specs.Tested.{number_entries, number_named, number_read}
 
