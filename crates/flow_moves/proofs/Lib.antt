@@ -2,6 +2,7 @@ mod AtWork
 mod Between
 mod Looking
 mod Moves
+mod Notes
 mod Owning
 mod Parts
 mod OnePlace

@@ -1,6 +1,7 @@
 //! Which moves may be made in a run.
 #![tactic(auto)]
 
+pub mod agenda;
 pub mod move_node;
 mod node_moves;
 pub mod picking;
@@ -8,5 +9,6 @@ mod places;
 mod waiting;
 mod workers;
 
+pub use agenda::Agenda;
 pub use move_node::MoveNode;
 pub use picking::enabled;
