@@ -1,5 +1,5 @@
 -- The rows of a key, by the values of the keys and of some columns.
-use Rattle.std.proofs.Common.{◌≡◌, ℕ, suc, ◌+◌, ◌<◌, Bool, true, cond, List, [], ◌∷◌, ◌++◌, length, take, drop, get_or, Some, None, refl, sym, ap, subst, ◌∙◌}
+use Rattle.std.proofs.Common.{◌≡◌, ℕ, suc, ◌+◌, ◌<◌, Bool, true, List, [], ◌∷◌, ◌++◌, length, take, drop, get_or, Some, None, refl, sym, ap, subst, ◌∙◌}
 use Rattle.std.specs.Prelude.{Option, map, filter, flat_map, unwrap_or, is_some}
 use Rattle.std.specs.List.{AllByRecursion}
 use Rattle.std.specs.Str.{bytes_eq}
@@ -27,14 +27,10 @@ use Rattle.ps_shares.proofs.Agreeing.{reads_the_same}
 use Rattle.ps_shares.proofs.Stands.{HasKind}
 use Rattle.picked_zips.specs.Picked.{places_from}
 use Rattle.picked_zips.proofs.Keyed.{place_inside, rest_of}
-use Rattle.picked_zips.proofs.Members.{filter_map, map_each}
+use Rattle.picked_zips.proofs.Members.{filter_each, filter_map, map_each}
 use Rattle.keyed_calls.proofs.Alike.{of_named}
 use Rattle.keyed_calls.specs.Keyed.{AllStand, row_by}
 use Rattle.group_keeps.proofs.ReadNames.{reads_map}
-
-pub filter_each : {A : Type 0} (f g : A → Bool) (P : A → Type 0) → ((x : A) → P x → f x ≡ g x) → (xs : List A) → AllByRecursion P xs → filter f xs ≡ filter g xs
-filter_each f g P same [] all = refl
-filter_each f g P same (x ∷ xs) all = let p = same x all.0 in let q = filter_each f g P same xs all.1 in λ i. cond (p i) (x ∷ q i) (q i)
 
 places_count : {A : Type 0} (w : ℕ) (xs : List A) → length (places_from w xs) ≡ length xs
 places_count w [] = refl

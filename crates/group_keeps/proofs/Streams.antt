@@ -163,8 +163,20 @@ all_plain : (es : List Named) → AllByRecursion (λ (e : Named). IsPlainReducti
 all_plain [] all = tt
 all_plain (e ∷ es) all = (all.0, all_plain es all.1)
 
-module _ (F : Functions) (at : ℕ) (schema : Fields) (s : State) (i : Stream) (o : GroupStep) (streams : can_stream o ≡ true) (plain : AllByRecursion (λ (e : Named). IsPlainReduction e.1) o.aggregates) (some_key : o.keys ≢ []) (some : schema_at s.nodes i ≢ [])
-    (fields : fields_of (o.keys ++ o.aggregates) (schema_at s.nodes i) ≡ Some schema) (distinct : has_distinct_names schema ≡ true) (ready : IsReady s i (exprs_of o.keys ++ columns_over i s)) (low : (lower_exprs at i (exprs_of o.keys ++ columns_over i s) s).state.names.next ≤ 2 ^ 64) where
+-- what streams keeps no order of its groups
+module _ (o : GroupStep) (streams : can_stream o ≡ true) where
+  free_order : o.maintain_order ≡ false
+  free_order =
+      let last = both (not o.maintain_order && not (all_independent (exprs_of o.keys ++ exprs_of o.aggregates))) (list_all is_made_of_reductions (exprs_of o.aggregates)) streams in
+      let first = both (not o.maintain_order) (not (all_independent (exprs_of o.keys ++ exprs_of o.aggregates))) last.0 in
+      not-true o.maintain_order first.0
+
+  pub gives_as : (F : Functions) (at : ℕ) (ts : List Table) (U : Table) → GivesBeforeCut F at (group_by (free_group o.keys o.aggregates)) ts U → GivesBeforeCut F at (group_by o) ts U
+  gives_as F at ts U h = subst (λ (m : Bool). GivesBeforeCut F at (group_by (record { keys = o.keys; aggregates = o.aggregates; maintain_order = m; cut = o.cut })) ts U) (sym free_order) h
+
+-- The node alone: the keys are lowered beside all columns, grouped, and reduced.
+module _ (F : Functions) (at : ℕ) (schema : Fields) (s : State) (i : Stream) (o : GroupStep) (plain : AllByRecursion (λ (e : Named). IsPlainReduction e.1) o.aggregates) (some : schema_at s.nodes i ≢ []) (fields : fields_of (o.keys ++ o.aggregates) (schema_at s.nodes i) ≡ Some schema)
+    (ready : IsReady s i (exprs_of o.keys ++ columns_over i s)) (low : (lower_exprs at i (exprs_of o.keys ++ columns_over i s) s).state.names.next ≤ 2 ^ 64) where
   abbrev es : List Tree
   es = exprs_of o.keys ++ columns_over i s
 
@@ -186,9 +198,6 @@ module _ (F : Functions) (at : ℕ) (schema : Fields) (s : State) (i : Stream) (
   abbrev g : Made
   g = over_selected at (group_by_node news o.aggregates) (news ++ o.aggregates) call.stream call.state
 
-  abbrev w : Made
-  w = with_columns at ns g.stream g.state
-
   -- what was answered for the keys
   abbrev xs : List Tree
   xs = (keys_before F at i s (exprs_of o.keys) some ready).0
@@ -204,23 +213,6 @@ module _ (F : Functions) (at : ℕ) (schema : Fields) (s : State) (i : Stream) (
   names_are : expr_names news ≡ knames
   names_are = let k = keys_before F at i s (exprs_of o.keys) some ready in ap expr_names news_are ∙ names_under knames xs (as_many o.keys ∙ sym k.2)
 
-  not_none : (keys : List Named) (more : List Name) → keys ≢ [] → expr_names keys ++ more ≢ []
-  not_none [] more some = absurd (some refl)
-  not_none (k ∷ keys) more some = λ e. cc
-
-  -- the group-by, the select above it and the slice
-  abbrev made_of : Split → Made
-  made_of split =
-      let h = over_selected at (group_by_node news split.reductions) (news ++ split.reductions) call.stream (record call.state { names = split.names }) in
-      let above = select_stream at h.stream (own_columns knames ++ split.above) h.state in
-      cut_stream at o.cut above.stream above.state
-
-  made_is : group_stream at o i s ≡ cut_stream at o.cut w.stream w.state
-  made_is =
-      let apart = split_plain o.aggregates plain (record { names = call.state.names; reductions = []; above = [] }) in
-      let above = ap (λ (es : List Named). select_stream at g.stream es g.state) (both_own knames (expr_names o.aggregates)) ∙ own_select at g.stream ns (not_none o.keys (expr_names o.aggregates) some_key) g.state in
-      ap (λ (b : Bool). cond {A = Stream → State → Made} b (streamed_groups at o) (mapped_groups at o) i s) streams ∙ ap made_of apart ∙ ap (λ (m : Made). cut_stream at o.cut m.stream m.state) above
-
   lowered : Makes F at i s es ready
   lowered = makes F at i s es ready
 
@@ -233,11 +225,11 @@ module _ (F : Functions) (at : ℕ) (schema : Fields) (s : State) (i : Stream) (
   mid_adds : Adds at s.nodes (i ∷ []) g.state.nodes
   mid_adds = adds_node at s.nodes call.state.nodes (i ∷ []) first_adds node refl over_fed
 
-  mid_fed : (j : Stream) → Contains (g.stream ∷ []) j → IsFed s.nodes (i ∷ []) j
-  mid_fed = one_fed s.nodes (i ∷ []) g.stream (inl (let l = ap length first_adds.nodes ∙ length-append s.nodes first_adds.more in omega arith))
+  g_fed : IsFed s.nodes (i ∷ []) g.stream
+  g_fed = inl (let l = ap length first_adds.nodes ∙ length-append s.nodes first_adds.more in omega arith)
 
-  projected : Projects F at ns g.stream g.state (last_there call.state.nodes node) w
-  projected = projects F at ns g.stream g.state (last_there call.state.nodes node)
+  mid_fed : (j : Stream) → Contains (g.stream ∷ []) j → IsFed s.nodes (i ∷ []) j
+  mid_fed = one_fed s.nodes (i ∷ []) g.stream g_fed
 
   abbrev uncut : GroupStep
   uncut = free_group o.keys o.aggregates
@@ -245,7 +237,7 @@ module _ (F : Functions) (at : ℕ) (schema : Fields) (s : State) (i : Stream) (
   abbrev given : GroupStep
   given = free_group news o.aggregates
 
-  module _ (tables : ℕ → Table) (chosen : IsPhysicalChoice F w.state.nodes tables) (rows : HasRowsOf (schema_there (slice_get s.nodes i.0)) (tables i.0)) where
+  module _ (tables : ℕ → Table) (chosen : IsPhysicalChoice F g.state.nodes tables) (rows : HasRowsOf (schema_there (slice_get s.nodes i.0)) (tables i.0)) where
     abbrev T : Table
     T = tables i.0
 
@@ -255,11 +247,8 @@ module _ (F : Functions) (at : ℕ) (schema : Fields) (s : State) (i : Stream) (
     abbrev S : Table
     S = tables g.stream.0
 
-    chosen_mid : IsPhysicalChoice F g.state.nodes tables
-    chosen_mid = restricted F g.state.nodes w.state.nodes projected.adds.more projected.adds.nodes tables chosen
-
     chosen_first : IsPhysicalChoice F call.state.nodes tables
-    chosen_first = restricted F call.state.nodes g.state.nodes (node ∷ []) refl tables chosen_mid
+    chosen_first = restricted F call.state.nodes g.state.nodes (node ∷ []) refl tables chosen
 
     own : schema_at s.nodes i ≡ T.schema
     own = own_schema F at i s es ready low tables chosen_first rows
@@ -297,13 +286,13 @@ module _ (F : Functions) (at : ℕ) (schema : Fields) (s : State) (i : Stream) (
     out_Z = ap (λ r. unwrap_or r []) fields_Z
 
     stage : EndsAsStep F at (group_by given) (Z ∷ []) S × ShowsOnlyStep F call.state.nodes g.state.nodes tables at (group_by given) (Z ∷ [])
-    stage = plain_means F at (group_by given) (group_by_node news o.aggregates) node.schema (call.stream ∷ []) refl (λ ts. refl) refl call.state.nodes tables chosen_mid
+    stage = plain_means F at (group_by given) (group_by_node news o.aggregates) node.schema (call.stream ∷ []) refl (λ ts. refl) refl call.state.nodes tables chosen
 
     abbrev L : Table
     L = stage.0.table.0
 
     k : (K : Table) × Case F at (group_by uncut) (T ∷ []) K × EndAlike L K
-    k = case_alike F at o.keys news o.aggregates T Z schema count alike (all_plain o.aggregates plain) reads out_T out_Z L stage.0.table.1
+    k = case_alike F at o.keys o.aggregates T schema out_T news Z count alike (all_plain o.aggregates plain) reads out_Z L stage.0.table.1
 
     ends : EndAlike S k.0
     ends = alike_then S L k.0 stage.0.table.2 k.2
@@ -317,9 +306,6 @@ module _ (F : Functions) (at : ℕ) (schema : Fields) (s : State) (i : Stream) (
     has : schema_at g.state.nodes g.stream ≡ S.schema
     has = ap schema_or_none (last_node call.state.nodes node) ∙ ap (λ (f : Fields). unwrap_or (fields_of (news ++ o.aggregates) f) []) (sym (answer_schema F at i s es ready low tables chosen_first rows)) ∙ ap (λ r. unwrap_or r []) fields_Z ∙ sym S_schema
 
-    named_so : named_fields ns S.schema ≡ Some schema
-    named_so = ap (λ ms. named_fields ms S.schema) (sym names_out) ∙ ap (named_fields (names_of schema)) S_schema ∙ all_fields schema distinct
-
     many : length (exprs_of news) + length (exprs_of o.aggregates) ≡ length schema
     many = (λ j. count j + length (exprs_of o.aggregates)) ∙ (λ j. sym (as_many o.keys) j + sym (as_many o.aggregates) j) ∙ sym (length-append knames (expr_names o.aggregates)) ∙ sym (ap length names_out) ∙ length-map schema (λ (f : Name × DataType). f.0)
 
@@ -327,9 +313,6 @@ module _ (F : Functions) (at : ℕ) (schema : Fields) (s : State) (i : Stream) (
     wide =
         subst (λ n. AllByRecursion (λ (row : List Value). length row ≡ n) S.rows) (many ∙ sym (ap length S_schema))
         (subst (AllByRecursion (λ (row : List Value). length row ≡ length (exprs_of news) + length (exprs_of o.aggregates))) (sym stage.0.table.2.same_rows) (case_wide F at news o.aggregates Z L stage.0.table.1))
-
-    named : IsNamed F at ns g.stream g.state (last_there call.state.nodes node) tables schema has named_so distinct names_out wide w
-    named = is_named F at ns g.stream g.state (last_there call.state.nodes node) tables schema has named_so distinct names_out wide chosen
 
     abbrev Bad : Cause → Type 0
     Bad c = IsCaseBrokenBy F at (group_by uncut) (T ∷ []) c
@@ -344,64 +327,134 @@ module _ (F : Functions) (at : ℕ) (schema : Fields) (s : State) (i : Stream) (
     first_tells =
         let h = shows_before F at i s (exprs_of o.keys) some ready low tables chosen_first rows in
         record {
-          causes = λ n U c le lt may has. shown_breaks F at o.keys news o.aggregates T Z schema count alike small_aggs reads out_T out_Z c (h.causes n U c le lt may has);
-          sizes = λ n le lt large. to_large F at o.keys news o.aggregates T Z schema count alike small_aggs reads out_T out_Z (h.sizes n le lt large);
+          causes = λ n U c le lt may has. shown_breaks F at o.keys o.aggregates T schema out_T c (h.causes n U c le lt may has);
+          sizes = λ n le lt large. to_large F at o.keys o.aggregates T schema out_T (h.sizes n le lt large);
         }
 
     mid_tells : Tells F tables Bad Large' call.state.nodes g.state.nodes
     mid_tells =
-        tells_step F tables Bad Large' at (group_by given) (Z ∷ []) call.state.nodes g.state.nodes stage.1 (same_causes F at o.keys news o.aggregates T Z schema count alike small_aggs reads out_T out_Z)
-        (same_sizes F at o.keys news o.aggregates T Z schema count alike small_aggs reads out_T out_Z)
+        tells_step F tables Bad Large' at (group_by given) (Z ∷ []) call.state.nodes g.state.nodes stage.1 (same_causes F at o.keys o.aggregates T schema out_T news Z count alike small_aggs reads out_Z)
+        (same_sizes F at o.keys o.aggregates T schema out_T news Z count alike small_aggs reads out_Z)
 
-    -- the table of the node is large only where its step is, or what it reads
-    S_small : max_rows < length S.rows → Large'
-    S_small long = mid_tells.sizes g.stream.0 (omega arith) (last_there call.state.nodes node) (inl (S, inl refl, long))
-
-    S_shows : (c : Cause) → Contains S.broken c → Bad c
-    S_shows c h = same_causes F at o.keys news o.aggregates T Z schema count alike small_aggs reads out_T out_Z c (stage.0.causes c h)
-
-    last_tells : Tells F tables Bad Large' g.state.nodes w.state.nodes
-    last_tells = record { causes = λ n U c le lt may has. S_shows c (named.tells.causes n U c le lt may has); sizes = λ n le lt large. S_small (named.tells.sizes n le lt large) }
-
-    -- all columns of the node's table, in order, are its table
-    same_rows : map (picked (places_in ns S.schema)) S.rows ≡ S.rows
-    same_rows =
-        ap (λ ms. map (picked (places_in ms S.schema)) S.rows) (sym names_out ∙ sym (ap names_of S_schema))
-        ∙ ap (λ (U : Table). U.rows) (own_table S.schema S refl (ap has_distinct_names S_schema ∙ distinct) wide)
-
-    means : EndsAsStep F at (group_by uncut) (T ∷ []) (tables w.stream.0) × ShowsOnlyStep F s.nodes w.state.nodes tables at (group_by uncut) (T ∷ [])
-    means =
-        let told = tells_then F tables Bad Large' s.nodes g.state.nodes w.state.nodes projected.adds.more projected.adds.nodes (tells_then F tables Bad Large' s.nodes call.state.nodes g.state.nodes (node ∷ []) refl first_tells mid_tells) last_tells in
-        let R = tables w.stream.0 in (
-          record {
-            table = (k.0, k.1, alike_then R S k.0 (record { same_schema = named.schema ∙ sym S_schema; same_rows = named.rows ∙ same_rows; both_whole = named.whole }) ends);
-            causes = λ c h. S_shows c (named.causes c h);
-          },
+    node_means : EndsAsStep F at (group_by uncut) (T ∷ []) S × ShowsOnlyStep F s.nodes g.state.nodes tables at (group_by uncut) (T ∷ [])
+    node_means =
+        let told = tells_then F tables Bad Large' s.nodes call.state.nodes g.state.nodes (node ∷ []) refl first_tells mid_tells in (
+          record { table = (k.0, k.1, ends); causes = λ c h. same_causes F at o.keys o.aggregates T schema out_T news Z count alike small_aggs reads out_Z c (stage.0.causes c h) },
           record { causes = told.causes; sizes = told.sizes },
         )
 
-  uncut_keep : KeepsStep F at (group_by uncut) s w.state (i ∷ []) w.stream
-  uncut_keep =
-      let all = adds_then at s.nodes g.state.nodes (i ∷ []) mid_adds w.state.nodes (g.stream ∷ []) mid_fed projected.adds in
+  pub node_keeps : KeepsStep F at (group_by uncut) s g.state (i ∷ []) g.stream
+  node_keeps =
       record {
-        more = all.more;
-        nodes = all.nodes;
-        made = all.made;
-        there = projected.there;
-        fed = fed_later at s.nodes g.state.nodes (i ∷ []) mid_adds (g.stream ∷ []) mid_fed w.stream projected.fed;
-        meaning = λ tables chosen rows. means tables chosen rows.0;
+        more = mid_adds.more;
+        nodes = mid_adds.nodes;
+        made = mid_adds.made;
+        there = last_there call.state.nodes node;
+        fed = g_fed;
+        meaning = λ tables chosen rows. node_means tables chosen rows.0;
       }
 
-  free_order : o.maintain_order ≡ false
-  free_order =
-      let last = both (not o.maintain_order && not (all_independent (exprs_of o.keys ++ exprs_of o.aggregates))) (list_all is_made_of_reductions (exprs_of o.aggregates)) streams in
-      let first = both (not o.maintain_order) (not (all_independent (exprs_of o.keys ++ exprs_of o.aggregates))) last.0 in
-      not-true o.maintain_order first.0
+  -- With a select of all its columns, and the slice, the node is the whole group-by.
+  module _ (streams : can_stream o ≡ true) (some_key : o.keys ≢ []) (distinct : has_distinct_names schema ≡ true) where
+    abbrev w : Made
+    w = with_columns at ns g.stream g.state
 
-  gives_as : (ts : List Table) (U : Table) → GivesBeforeCut F at (group_by uncut) ts U → GivesBeforeCut F at (group_by o) ts U
-  gives_as ts U h = subst (λ (m : Bool). GivesBeforeCut F at (group_by (record { keys = o.keys; aggregates = o.aggregates; maintain_order = m; cut = o.cut })) ts U) (sym free_order) h
+    not_none : (keys : List Named) (more : List Name) → keys ≢ [] → expr_names keys ++ more ≢ []
+    not_none [] more some = absurd (some refl)
+    not_none (k ∷ keys) more some = λ e. cc
 
-  pub groups_keep : IsKeptStep F at (group_by o) schema (i ∷ []) s
-  groups_keep =
-      let kept = cut_keeps F at (group_by uncut) (group_by o) gives_as (λ ts large. large) refl s w.state (i ∷ []) w.stream uncut_keep o.cut refl in
-      subst (λ (m : Made). KeepsStep F at (group_by o) s m.state (i ∷ []) m.stream) (sym made_is) kept
+    -- the group-by, the select above it and the slice
+    abbrev made_of : Split → Made
+    made_of split =
+        let h = over_selected at (group_by_node news split.reductions) (news ++ split.reductions) call.stream (record call.state { names = split.names }) in
+        let above = select_stream at h.stream (own_columns knames ++ split.above) h.state in
+        cut_stream at o.cut above.stream above.state
+
+    made_is : group_stream at o i s ≡ cut_stream at o.cut w.stream w.state
+    made_is =
+        let apart = split_plain o.aggregates plain (record { names = call.state.names; reductions = []; above = [] }) in
+        let above = ap (λ (es : List Named). select_stream at g.stream es g.state) (both_own knames (expr_names o.aggregates)) ∙ own_select at g.stream ns (not_none o.keys (expr_names o.aggregates) some_key) g.state in
+        ap (λ (b : Bool). cond {A = Stream → State → Made} b (streamed_groups at o) (mapped_groups at o) i s) streams ∙ ap made_of apart ∙ ap (λ (m : Made). cut_stream at o.cut m.stream m.state) above
+
+    projected : Projects F at ns g.stream g.state (last_there call.state.nodes node) w
+    projected = projects F at ns g.stream g.state (last_there call.state.nodes node)
+
+    module _ (tables : ℕ → Table) (chosen : IsPhysicalChoice F w.state.nodes tables) (rows : HasRowsOf (schema_there (slice_get s.nodes i.0)) (tables i.0)) where
+      abbrev P : Table
+      P = tables g.stream.0
+
+      abbrev step_tables : List Table
+      step_tables = tables i.0 ∷ []
+
+      abbrev Shows : Cause → Type 0
+      Shows c = IsCaseBrokenBy F at (group_by uncut) step_tables c
+
+      abbrev IsLarge : Type 0
+      IsLarge = IsLargeCase F at (group_by uncut) step_tables ⊎ SomeIsLarge step_tables
+
+      chosen_mid : IsPhysicalChoice F g.state.nodes tables
+      chosen_mid = restricted F g.state.nodes w.state.nodes projected.adds.more projected.adds.nodes tables chosen
+
+      below : EndsAsStep F at (group_by uncut) step_tables P × ShowsOnlyStep F s.nodes g.state.nodes tables at (group_by uncut) step_tables
+      below = node_keeps.meaning tables chosen_mid (rows, tt)
+
+      P_names : names_of schema ≡ ns
+      P_names = names_out tables chosen_mid rows
+
+      P_schema : P.schema ≡ schema
+      P_schema = S_schema tables chosen_mid rows
+
+      P_wide : AllByRecursion (λ (row : List Value). length row ≡ length P.schema) P.rows
+      P_wide = wide tables chosen_mid rows
+
+      named_so : named_fields ns P.schema ≡ Some schema
+      named_so = ap (λ ms. named_fields ms P.schema) (sym P_names) ∙ ap (named_fields (names_of schema)) P_schema ∙ all_fields schema distinct
+
+      named : IsNamed F at ns g.stream g.state (last_there call.state.nodes node) tables schema (has tables chosen_mid rows) named_so distinct P_names P_wide w
+      named = is_named F at ns g.stream g.state (last_there call.state.nodes node) tables schema (has tables chosen_mid rows) named_so distinct P_names P_wide chosen
+
+      -- the table of the node is large only where its step is, or what it reads
+      P_small : max_rows < length P.rows → IsLarge
+      P_small long = below.1.sizes g.stream.0 (let l = ap length first_adds.nodes ∙ length-append s.nodes first_adds.more in omega arith) (last_there call.state.nodes node) (inl (P, inl refl, long))
+
+      last_tells : Tells F tables Shows IsLarge g.state.nodes w.state.nodes
+      last_tells = record { causes = λ n U c le lt may has. below.0.causes c (named.tells.causes n U c le lt may has); sizes = λ n le lt large. P_small (named.tells.sizes n le lt large) }
+
+      -- all columns of the node's table, in order, are its table
+      same_rows : map (picked (places_in ns P.schema)) P.rows ≡ P.rows
+      same_rows =
+          ap (λ ms. map (picked (places_in ms P.schema)) P.rows) (sym P_names ∙ sym (ap names_of P_schema))
+          ∙ ap (λ (U : Table). U.rows) (own_table P.schema P refl (ap has_distinct_names P_schema ∙ distinct) P_wide)
+
+      means : EndsAsStep F at (group_by uncut) step_tables (tables w.stream.0) × ShowsOnlyStep F s.nodes w.state.nodes tables at (group_by uncut) step_tables
+      means =
+          let told = tells_then F tables Shows IsLarge s.nodes g.state.nodes w.state.nodes projected.adds.more projected.adds.nodes (record { causes = below.1.causes; sizes = below.1.sizes }) last_tells in
+          let R = tables w.stream.0 in
+          let t = below.0.table in (
+            record {
+              table = (t.0, t.1, alike_then R P t.0 (record { same_schema = named.schema ∙ sym P_schema; same_rows = named.rows ∙ same_rows; both_whole = named.whole }) t.2);
+              causes = λ c h. below.0.causes c (named.causes c h);
+            },
+            record { causes = told.causes; sizes = told.sizes },
+          )
+
+    uncut_keep : KeepsStep F at (group_by uncut) s w.state (i ∷ []) w.stream
+    uncut_keep =
+        let all = adds_then at s.nodes g.state.nodes (i ∷ []) mid_adds w.state.nodes (g.stream ∷ []) mid_fed projected.adds in
+        record {
+          more = all.more;
+          nodes = all.nodes;
+          made = all.made;
+          there = projected.there;
+          fed = fed_later at s.nodes g.state.nodes (i ∷ []) mid_adds (g.stream ∷ []) mid_fed w.stream projected.fed;
+          meaning = λ tables chosen rows. means tables chosen rows.0;
+        }
+
+    kept : IsKeptStep F at (group_by o) schema (i ∷ []) s
+    kept =
+        let whole = cut_keeps F at (group_by uncut) (group_by o) (gives_as o streams F at) (λ ts large. large) refl s w.state (i ∷ []) w.stream uncut_keep o.cut refl in
+        subst (λ (m : Made). KeepsStep F at (group_by o) s m.state (i ∷ []) m.stream) (sym made_is) whole
+
+pub groups_keep : (F : Functions) (at : ℕ) (schema : Fields) (s : State) (i : Stream) (o : GroupStep) → can_stream o ≡ true → AllByRecursion (λ (e : Named). IsPlainReduction e.1) o.aggregates → o.keys ≢ [] → schema_at s.nodes i ≢ [] → fields_of (o.keys ++ o.aggregates) (schema_at s.nodes i) ≡ Some schema
+    → has_distinct_names schema ≡ true → IsReady s i (exprs_of o.keys ++ columns_over i s) → (lower_exprs at i (exprs_of o.keys ++ columns_over i s) s).state.names.next ≤ 2 ^ 64 → IsKeptStep F at (group_by o) schema (i ∷ []) s
+groups_keep F at schema s i o streams plain some_key some fields distinct ready low = kept F at schema s i o plain some fields ready low streams some_key distinct

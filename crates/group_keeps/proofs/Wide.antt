@@ -42,7 +42,7 @@ module _ (F : Functions) (at : ℕ) (keys aggs : List Named) (t : Table) where
   abbrev count : ℕ
   count = k + length (exprs_of aggs)
 
-  each_key : AllByRecursion (λ (key : List Value). length key ≡ k) (keys_of (length t.schema) (keyed at (exprs_of keys) t).rows)
+  pub each_key : AllByRecursion (λ (key : List Value). length key ≡ k) (keys_of (length t.schema) (keyed at (exprs_of keys) t).rows)
   each_key =
       distinct-all (λ (key : List Value). length key ≡ k) (map (drop (length t.schema)) (keyed at (exprs_of keys) t).rows)
       (all-map (λ (row : List Value). length row ≡ length t.schema + k) (λ (key : List Value). length key ≡ k) (drop (length t.schema)) (λ row long. length-drop (length t.schema) row ∙ omega (arith, long)) (keyed at (exprs_of keys) t).rows (keyed_wide at t (exprs_of keys)))

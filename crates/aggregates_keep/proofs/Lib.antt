@@ -1,0 +1,4 @@
+pub mod Sides
+pub mod Composed
+pub mod Composes
+pub mod Streams

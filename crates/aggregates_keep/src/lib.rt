@@ -1,0 +1,4 @@
+//! Laws of lowering group-bys whose aggregates hold reductions, as steps of a plan.
+#![tactic(auto)]
+
+pub mod laws;

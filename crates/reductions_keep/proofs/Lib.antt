@@ -1,0 +1,11 @@
+pub mod Single
+pub mod Inside
+pub mod Parts
+pub mod Cells
+pub mod Shown
+pub mod Fresh
+pub mod Rows
+pub mod Keys
+pub mod Orders
+pub mod Above
+pub mod Zips

@@ -1,0 +1,4 @@
+//! Laws of aggregates that hold reductions, which a group-by that streams takes apart.
+#![tactic(auto)]
+
+pub mod laws;
