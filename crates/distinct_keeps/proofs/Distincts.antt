@@ -34,10 +34,10 @@ use Rattle.lowering_sizes.proofs.Nodes.{plain_modest, some_rows, step_modest}
 use Rattle.step_keeps.specs.Kept.{SomeIsLarge}
 use Rattle.picked_zips.proofs.Members.{of_map}
 use Rattle.keyed_calls.specs.Keyed.{AllStand}
-use Rattle.distinct_keeps.proofs.KeyedColumns.{b_causes, b_lost, b_rows, kp, whole_from, whole_to}
-use Rattle.distinct_keeps.proofs.FirstRows.{with_key}
-use Rattle.distinct_keeps.proofs.Picks.{Picks}
-use Rattle.distinct_keeps.proofs.Restored.{all_groups, clear_causes, clear_rows, groups_clear, groups_lose_none, groups_restored, groups_wide, picked_column, picked_of, restore}
+use Rattle.distinct_parts.proofs.KeyedColumns.{b_causes, b_lost, b_rows, kp, whole_from, whole_to}
+use Rattle.distinct_parts.proofs.FirstRows.{with_key}
+use Rattle.distinct_parts.proofs.Picks.{Picks}
+use Rattle.distinct_parts.proofs.Restored.{all_groups, clear_causes, clear_rows, groups_clear, groups_lose_none, groups_restored, groups_wide, picked_column, picked_of, restore}
 
 -- what stays in order under a map
 order_map : {A B : Type 0} (f : A → B) (m : Bool) (xs ys : List A) → IsOrder m xs ys → IsOrder m (map f xs) (map f ys)

@@ -12,7 +12,7 @@ use Rattle.ps_meaning.specs.Distinct.{distinct_rows, last_rows, picked}
 use Rattle.ps_keys.proofs.SameRows.{same_row-back, same_row-is, same_row-itself}
 use Rattle.ps_shares.proofs.Members.{Has}
 use Rattle.picked_zips.proofs.Members.{map_each}
-use Rattle.distinct_keeps.proofs.FirstRows.{with_key}
+use Rattle.distinct_parts.proofs.FirstRows.{with_key}
 
 abbrev pub last_row : List (List Value) → List Value
 last_row [] = []

@@ -18,8 +18,8 @@ use Rattle.ps_meaning.specs.declared.options.UniqueKeepStrategy.TheVariants as k
 use Rattle.ps_rules.specs.Slots.{State, Stream, schema_at}
 use Rattle.plan_rules.specs.Distinct.{kept_value, keeps_last, keeps_none}
 use Rattle.step_keeps.specs.Kept.{IsKeptStep}
-use Rattle.distinct_keeps.proofs.FirstRows.{with_key}
-use Rattle.distinct_keeps.proofs.Picks.{Picks}
+use Rattle.distinct_parts.proofs.FirstRows.{with_key}
+use Rattle.distinct_parts.proofs.Picks.{Picks}
 use Rattle.distinct_keeps.proofs.Streams.{distincts_keep}
 use Rattle.last_keeps.proofs.LastRows.{last_is_one, last_of_column, last_row, last_rows_are}
 

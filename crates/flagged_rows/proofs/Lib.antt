@@ -1,0 +1,9 @@
+pub mod Counts
+pub mod CutOver
+pub mod CutStays
+pub mod FieldKinds
+pub mod Flagged
+pub mod Groups
+pub mod Orders
+pub mod Places
+pub mod SingleRows
