@@ -14,11 +14,12 @@ use Rattle.ps_rules.specs.Slots.{Stream, schema_at, schema_or_none}
 use Rattle.plan_rules.specs.Plans.{LoweredPlan, LoweredPlans, Progress, cache_stream, first_plan, lower_plan, lower_plans, nothing_yet, stream_of_cache, stream_over}
 use Rattle.step_keeps.specs.Kept.{IsKeptStep}
 use Rattle.step_keeps.proofs.Added.{stays}
-use Rattle.plan_keeps.specs.Kept.{AreKeptPlans, IsKeptCache, IsKeptPlan}
+use Rattle.plan_keeps.specs.Kept.{AreKeptPlans, AreSmall, IsKeptCache, IsKeptPlan}
 use Rattle.plan_keeps.proofs.Induction.{plan_lowered, plans_lowered}
 use Rattle.plan_keeps.proofs.Inputs.{AreFine, AreLowered}
 use Rattle.plan_keeps.proofs.Lists.{in_cons, in_none, stream_known}
 use Rattle.plan_keeps.proofs.Ordinary.{CacheOr, cache_or, is_cache, is_ordinary}
+use Rattle.plan_keeps.proofs.Small.{kept_call}
 use Rattle.arena_keeps.specs.Covered.{AreCovered, IsCovered, IsCoveredStep}
 use Rattle.arena_keeps.proofs.Calls.{SchemasAre, call_seen}
 
@@ -108,7 +109,7 @@ module _ (F : Functions) (stored : ℕ → PlanTree) where
           let s = step_seen at step below p covered (λ id e. o.other id (subst (IsCacheOf id) e refl)) low all in
           let same = o.same schema (first_plan below) (lower_plans F below) p in
           record {
-            kept = o.back schema (AreKeptPlans F below) (lower_plans F below) p (all.kept, s.0);
+            kept = o.back schema (AreSmall F below) (AreKeptPlans F below) (lower_plans F below) p (all.kept, kept_call F at step schema (AreSmall F below) (lower_plans F below p) s.0);
             schema = subst (λ (q : LoweredPlan). schema_at q.progress.state.nodes q.stream ≡ schema) same s.1;
             caches = subst (λ (q : LoweredPlan). AreSeen F q.progress) same s.2;
           }

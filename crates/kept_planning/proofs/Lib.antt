@@ -1,2 +1,1 @@
 pub mod Weaker
-pub mod Scans

@@ -14,8 +14,8 @@ ghost use Rattle.ps_plan.specs.Refusals.{IsValid};
 ghost use Rattle.ps_survey.specs.Flaws.{plan_of};
 ghost use Rattle.ps_validate.specs.Errors.{IsPlanError};
 ghost use Rattle.valid_plans.specs.Valid.{IsValidWith, plan_with};
+ghost use Rattle.within_arenas.specs.Lowering.{IsLoweringOrLarge};
 
-use crate::tables::tables_fit;
 use keyed_slots::SlotMap;
 use physical_laws::laws::{physical_plans_are_lowerings, physical_plans_are_sound};
 use plan_lowering::physical::build_physical_plan as build_by_rule;
@@ -26,16 +26,19 @@ use ps_frame::refusal::PolarsResult;
 use ps_phys::phys::{PhysNode, PhysNodeKey};
 use ps_plan::ir::IR;
 use pu_base::{Arena, Node};
+use scanned_tables::tables::tables_fit;
 use std::alloc::Global;
 use valid_plans::valid::Valid;
+use valid_within::laws::valid_plans_stay_within;
 
 /// The physical nodes of a valid plan, and the key of its root: the nodes that the root reaches are those that the rules
 /// of lowering give, and they are sound; each of their ports has exactly one reader. Of the functions it asks whether one
 /// streams, and calls none.
 ///
-/// Where each call that the plan makes keeps its step, they are a lowering of the plan: each table of the last one, which
-/// is the root, is within one that the plan's root means under some choice; a cause that a node shows and that was made at
-/// its origin breaks the plan's node of that number; and where a node is large the plan's node is.
+/// They mean what the plan means: each table of the last one, which is the root, is within one that the plan's root means
+/// under some choice; a cause that a node shows and that was made at its origin breaks the plan's node of that number, unless
+/// some table at or under that one is large; and where a node is large the plan's node is. Where each call that the plan makes
+/// keeps its step, no such case is needed.
 ///
 /// What stood in the arena stands after every answer. Fails only for want of memory; expressions may then have been added.
 pub fn build_physical_plan<F: Functions>(
@@ -48,6 +51,7 @@ pub fn build_physical_plan<F: Functions>(
     ensures plan { IfOk result (λ r. Later expr_arena.new.items (λ f. IsPhysicalPlan (F.told functions.now) (plan_with valid.now expr_arena.old.items) (shown f r.0.slots r.1.0))) }
     ensures readers { IfOk result (λ r. Later expr_arena.new.items (λ f. HasOneReaderEach (shown f r.0.slots r.1.0))) }
     ensures sound { IfOk result (λ r. Later expr_arena.new.items (λ f. IsSound (F.told functions.now) (shown f r.0.slots r.1.0))) }
+    ensures means { IfOk result (λ r. Later expr_arena.new.items (λ f. IsLoweringOrLarge (F.told functions.now) (plan_with valid.now expr_arena.old.items) (shown f r.0.slots r.1.0) (length (shown f r.0.slots r.1.0) - 1))) }
     ensures lowering { KeepsSteps (F.told functions.now) (plan_with valid.now expr_arena.old.items) → IfOk result (λ r. Later expr_arena.new.items (λ f. IsLoweringOf (F.told functions.now) (plan_with valid.now expr_arena.old.items) (shown f r.0.slots r.1.0) (length (shown f r.0.slots r.1.0) - 1))) }
     ensures root { IfOk result (λ r. IsSome (value_at r.0.slots r.1.0)) }
     ensures whole { IfOk result (λ r. ReadsWhatIsThere r.0.slots) }
@@ -59,6 +63,7 @@ pub fn build_physical_plan<F: Functions>(
     tables_fit(valid.ir());
     physical_plans_are_sound();
     physical_plans_are_lowerings();
+    valid_plans_stay_within();
     build_by_rule(alloc, valid, expr_arena, functions)
 }
 
@@ -78,6 +83,7 @@ pub fn plan_query<F: Functions>(
     ensures plan { IfOk result (λ r. IsPhysicalPlan (F.told functions.now) (plan_of node ir_arena.items expr_arena.old.items) (shown (tree_at expr_arena.new.items) r.0.slots r.1.0)) }
     ensures readers { IfOk result (λ r. HasOneReaderEach (shown (tree_at expr_arena.new.items) r.0.slots r.1.0)) }
     ensures sound { IfOk result (λ r. IsSound (F.told functions.now) (shown (tree_at expr_arena.new.items) r.0.slots r.1.0)) }
+    ensures means { IfOk result (λ r. IsLoweringOrLarge (F.told functions.now) (plan_of node ir_arena.items expr_arena.old.items) (shown (tree_at expr_arena.new.items) r.0.slots r.1.0) (length (shown (tree_at expr_arena.new.items) r.0.slots r.1.0) - 1)) }
     ensures lowering { KeepsSteps (F.told functions.now) (plan_of node ir_arena.items expr_arena.old.items) → IfOk result (λ r. IsLoweringOf (F.told functions.now) (plan_of node ir_arena.items expr_arena.old.items) (shown (tree_at expr_arena.new.items) r.0.slots r.1.0) (length (shown (tree_at expr_arena.new.items) r.0.slots r.1.0) - 1)) }
     ensures root { IfOk result (λ r. IsSome (value_at r.0.slots r.1.0)) }
     ensures whole { IfOk result (λ r. ReadsWhatIsThere r.0.slots) }
@@ -88,5 +94,6 @@ pub fn plan_query<F: Functions>(
     tables_fit(&ir_arena);
     physical_plans_are_sound();
     physical_plans_are_lowerings();
+    valid_plans_stay_within();
     query_by_rule(alloc, node, ir_arena, expr_arena, functions)
 }

@@ -25,7 +25,7 @@ use Rattle.ps_plan.specs.Refusals.{GraphRefused, IsClean, IsValid, StepIs, funct
 use Rattle.ps_plan.specs.declared.ir.IR.{IR}
 use Rattle.ps_plan.specs.declared.ir.IR.TheVariants as entry
 use Rattle.ps_bundles.proofs.Reading.{among_first}
-use Rattle.ps_rules.specs.Names.{IsKnown, Knows, Names, temporary}
+use Rattle.ps_rules.specs.Names.{Knows, Names, temporary}
 use Rattle.plan_rules.specs.Plans.{lowering_of}
 use Rattle.arena_keeps.proofs.Parts.{Entered, along, entered, named_inputs, trees_at}
 use Rattle.arena_keeps.proofs.Stored.{stored, whole_stands}

@@ -89,7 +89,7 @@ large_given : (F : Functions) (choice : Choice) (u : PlanTree) (L : Table) → M
 large_given F choice (node a s below) L mean h = inr (inl (L, inl mean, h))
 large_given F choice missing L mean h = elim mean [ ]
 
-some_large : (F : Functions) (choice : Choice) (ts : PlanTrees) (ps Ls : List Table) → AllMean F choice ts Ls → AllEndAlike ps Ls → SomeIsLarge ps → IsAnyLarge F choice ts
+pub some_large : (F : Functions) (choice : Choice) (ts : PlanTrees) (ps Ls : List Table) → AllMean F choice ts Ls → AllEndAlike ps Ls → SomeIsLarge ps → IsAnyLarge F choice ts
 some_large F choice no_trees [] Ls ms a h = absurd h
 some_large F choice no_trees (p ∷ ps) Ls none_mean a h = absurd a
 some_large F choice (tree t ts) [] Ls ms a h = absurd h

@@ -18,7 +18,7 @@ use Rattle.plan_laws.specs.Laws.{HaveStored, IsStored, StandsOver}
 use Rattle.ps_rules.specs.Names.{Names}
 use Rattle.ps_rules.specs.Slots.{Stream}
 use Rattle.plan_rules.specs.Plans.{LoweredPlan, Progress, cache_stream, first_plan, lower_plan, lower_plans, lowering_of, node_stream, nothing_yet, stream_of_cache}
-use Rattle.plan_keeps.specs.Kept.{AreKeptPlans, IsKeptCache, IsKeptNode, IsKeptPlan, MeansWithin}
+use Rattle.plan_keeps.specs.Kept.{AreKeptPlans, AreSmall, IsKeptCache, IsKeptNode, IsKeptPlan, MeansWithin}
 use Rattle.plan_keeps.proofs.Caches.{again_lowered, cache_lowered}
 use Rattle.plan_keeps.proofs.Inputs.{AreFine, AreLowered, IsLowered, more_lowered, none_lowered, one_lowered}
 use Rattle.plan_keeps.proofs.Lists.{in_none}
@@ -58,7 +58,7 @@ module _ (F : Functions) (stored : ℕ → PlanTree) where
       by (is_ordinary o) =
           λ so kept low.
           let schema = tree_schema F (node at step below) in
-          let k = o.kept schema (AreKeptPlans F below) (lower_plans F below) p kept in
+          let k = o.kept schema (AreSmall F below) (AreKeptPlans F below) (lower_plans F below) p kept in
           subst (IsLowered F stored p (node at step below)) (o.same schema (first_plan below) (lower_plans F below) p) (step_lowered F stored p at step schema below o.chosen o.other (lower_plans F below p) (low k.0) k.1)
 
   mutual

@@ -5,6 +5,7 @@ pub mod Inputs
 pub mod Lists
 pub mod OneStep
 pub mod Ordinary
+pub mod Small
 pub mod Told
 pub mod ToldCaches
 pub mod ToldPlans

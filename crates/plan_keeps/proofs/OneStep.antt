@@ -18,9 +18,11 @@ use Rattle.plan_laws.proofs.AlikeSteps.{steps-keep}
 use Rattle.plan_laws.specs.Laws.{HoldsId, IsCacheOf, SomeHoldsId}
 use Rattle.ps_rules.specs.Slots.{Stream}
 use Rattle.plan_rules.specs.Plans.{LoweredPlans, Progress, stream_over}
-use Rattle.step_keeps.specs.Kept.{HaveRows, IsKeptStep, tables_from}
+use Rattle.step_keeps.specs.Kept.{HaveRows, tables_from}
 use Rattle.step_keeps.proofs.Added.{restricted, stays}
 use Rattle.step_keeps.proofs.Composed.{alike_then}
+use Rattle.plan_keeps.specs.Kept.{AreSmall, IsKeptCall}
+use Rattle.plan_keeps.proofs.Alike.{some_large}
 use Rattle.plan_keeps.proofs.Inputs.{AreFine, AreLowered, IsLowered, still_fine}
 use Rattle.plan_keeps.proofs.Lists.{Known}
 
@@ -38,7 +40,7 @@ rows_of_tables F a b more e tables given (s ∷ ss) there =
     )
 
 module _ (F : Functions) (stored : ℕ → PlanTree) (p : Progress) (at : ℕ) (step : Step) (schema : Fields) (below : PlanTrees) (chosen : (choice : Choice) (T : Table) → IsChosen choice step T) (other : (k : ℕ) → IsCacheOf k step → ⊥)
-    (r : LoweredPlans) (low : AreLowered F stored p below r) (kept : IsKeptStep F at step schema r.streams r.progress.state) where
+    (r : LoweredPlans) (low : AreLowered F stored p below r) (kept : IsKeptCall F at step schema (AreSmall F below) r) where
   pub step_lowered : IsLowered F stored p (node at step below) (stream_over F at step schema r)
   step_lowered =
       let m = (stream_over F at step schema r).progress.state.nodes in
@@ -54,7 +56,7 @@ module _ (F : Functions) (stored : ℕ → PlanTree) (p : Progress) (at : ℕ) (
             let from = e ∙ ap (λ (xs : Shape). xs ++ rest) kept.nodes ∙ append_assoc r.progress.state.nodes kept.more rest in
             let b = low.lowers shape (kept.more ++ rest) from tables given choice serves in
             let ls = b.3 in
-            let ends = kept.meaning tables (restricted F m shape rest e tables given.0) (rows_of_tables F r.progress.state.nodes shape (kept.more ++ rest) from tables given r.streams low.there) in
+            let ends = kept.meaning tables (restricted F m shape rest e tables given.0) (rows_of_tables F r.progress.state.nodes shape (kept.more ++ rest) from tables given r.streams low.there) (λ small large. small b.0 (some_large F b.0 below (tables_from tables r.streams) ls.0 ls.1 ls.2 large)) in
             let table = ends.0.table in
             let k = steps-keep F at step (tables_from tables r.streams) ls.0 table.0 ls.2 table.1 in
             (b.0, b.1, b.2, (k.0, by_case ls.1 k.1 (chosen b.0 k.0), alike_then (tables (stream_over F at step schema r).stream.0) table.0 k.0 table.2 k.2));

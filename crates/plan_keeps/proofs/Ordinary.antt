@@ -7,14 +7,13 @@ use Rattle.ps_meaning.specs.PlanTrees.{PlanTree}
 use Rattle.ps_meaning.specs.Steps.{Step, cache}
 use Rattle.plan_laws.specs.Laws.{IsCacheOf}
 use Rattle.plan_rules.specs.Plans.{LoweredPlans, Progress, node_stream, stream_over}
-use Rattle.step_keeps.specs.Kept.{IsKeptStep}
-use Rattle.plan_keeps.specs.Kept.{IsKeptNode}
+use Rattle.plan_keeps.specs.Kept.{IsKeptCall, IsKeptNode}
 
 pub record IsOrdinary (F : Functions) (at : ℕ) (step : Step) : Type 1 where
   pub chosen : (choice : Choice) (T : Table) → IsChosen choice step T
   pub other : (k : ℕ) → IsCacheOf k step → ⊥
-  pub kept : (schema : Fields) (K : Progress → Type 0) (lower : Progress → LoweredPlans) (p : Progress) → IsKeptNode F at step schema K lower p → K p × IsKeptStep F at step schema (lower p).streams (lower p).progress.state
-  pub back : (schema : Fields) (K : Progress → Type 0) (lower : Progress → LoweredPlans) (p : Progress) → K p × IsKeptStep F at step schema (lower p).streams (lower p).progress.state → IsKeptNode F at step schema K lower p
+  pub kept : (schema : Fields) (small : Type 0) (K : Progress → Type 0) (lower : Progress → LoweredPlans) (p : Progress) → IsKeptNode F at step schema small K lower p → K p × IsKeptCall F at step schema small (lower p)
+  pub back : (schema : Fields) (small : Type 0) (K : Progress → Type 0) (lower : Progress → LoweredPlans) (p : Progress) → K p × IsKeptCall F at step schema small (lower p) → IsKeptNode F at step schema small K lower p
   pub same : (schema : Fields) (input : PlanTree) (lower : Progress → LoweredPlans) (p : Progress) → stream_over F at step schema (lower p) ≡ node_stream F at step schema input lower p
 
 pub data CacheOr (F : Functions) (at : ℕ) (step : Step) : Type 1 where
@@ -23,4 +22,4 @@ pub data CacheOr (F : Functions) (at : ℕ) (step : Step) : Type 1 where
 
 pub cache_or : (F : Functions) (at : ℕ) (step : Step) → CacheOr F at step
 cache_or F at (cache id) = is_cache id refl
-cache_or F at _ = is_ordinary (record { chosen = λ choice T. tt; other = λ k h. h; kept = λ schema K lower p h. h; back = λ schema K lower p h. h; same = λ schema input lower p. refl })
+cache_or F at _ = is_ordinary (record { chosen = λ choice T. tt; other = λ k h. h; kept = λ schema small K lower p h. h; back = λ schema small K lower p h. h; same = λ schema input lower p. refl })

@@ -21,13 +21,13 @@ use Rattle.ps_plan.specs.Lowering.{AreTablesOf, Cached, ServesCaches}
 use Rattle.plan_laws.specs.Laws.{AllEndAlike, causes_of}
 use Rattle.ps_rules.specs.Slots.{Stream}
 use Rattle.plan_rules.specs.Plans.{LoweredPlan, LoweredPlans, Progress, stream_over}
-use Rattle.step_keeps.specs.Kept.{EndsAsStep, IsKeptStep, IsMadeFor, ShowsOnlyStep, SomeIsLarge, tables_from}
+use Rattle.step_keeps.specs.Kept.{EndsAsStep, IsMadeFor, ShowsOnlyStep, SomeIsLarge, tables_from}
 use Rattle.step_keeps.proofs.Added.{given_earlier, large_earlier, restricted, stood}
-use Rattle.plan_keeps.proofs.Alike.{node_broken, node_large}
+use Rattle.plan_keeps.proofs.Alike.{node_broken, node_large, some_large}
 use Rattle.plan_keeps.proofs.Inputs.{AreLowered, IsLowered}
 use Rattle.plan_keeps.proofs.Lists.{in_none}
 use Rattle.plan_keeps.proofs.OneStep.{rows_of_tables}
-use Rattle.plan_keeps.specs.Kept.{HasNumber, IsPartOf, IsPartOfSome, SomeHasNumber, number_of}
+use Rattle.plan_keeps.specs.Kept.{AreSmall, HasNumber, IsKeptCall, IsPartOf, IsPartOfSome, SomeHasNumber, number_of}
 use native.Mathlib.Decide.{dec_le}
 use mathlib.Core.Logic.{dite}
 
@@ -154,7 +154,7 @@ step_number F shape tables ss below all at step c (U, inr g, h) = by (of_step F 
     by (inr k) = inr (some_number F shape tables ss below all c k)
 
 module _ (F : Functions) (stored : ℕ → PlanTree) (p : Progress) (at : ℕ) (step : Step) (schema : Fields) (below : PlanTrees) (chosen : (choice : Choice) (T : Table) → IsChosen choice step T) (apart : SomeHasNumber at below → ⊥) (r : LoweredPlans)
-    (low : AreLowered F stored p below r) (before : IsTold F p) (tells : TellAll F p below r) (kept : IsKeptStep F at step schema r.streams r.progress.state) where
+    (low : AreLowered F stored p below r) (before : IsTold F p) (tells : TellAll F p below r) (kept : IsKeptCall F at step schema (AreSmall F below) r) where
   abbrev u : PlanTree
   u = node at step below
 
@@ -180,14 +180,17 @@ module _ (F : Functions) (stored : ℕ → PlanTree) (p : Progress) (at : ℕ) (
     all_tell : AllTell F shape tables r.streams below
     all_tell = tells.streams shape (kept.more ++ rest) from early tables given
 
-    means : EndsAsStep F at step ps (tables to.0) × ShowsOnlyStep F old_nodes new_nodes tables at step ps
-    means = kept.meaning tables (restricted F new_nodes shape rest is tables given.0) (rows_of_tables F old_nodes shape (kept.more ++ rest) from tables given r.streams low.there)
-
     inputs : (choice : Choice) × ((Ls : List Table) × AllMean F choice below Ls × AllEndAlike ps Ls)
     inputs =
         let c = sooner F p.state.nodes old_nodes low.more (λ shape tables. (choice : Choice) × ServesCaches F tables p.cached choice) low.nodes before.able shape (kept.more ++ rest) from early tables given in
         let b = low.lowers shape (kept.more ++ rest) from tables given c.0 c.1 in
         (b.0, b.3)
+
+    none_large : AreSmall F below → SomeIsLarge ps → ⊥
+    none_large small large = let ls = inputs.1 in small inputs.0 (some_large F inputs.0 below ps ls.0 ls.1 ls.2 large)
+
+    means : EndsAsStep F at step ps (tables to.0) × ShowsOnlyStep F old_nodes new_nodes tables at step ps
+    means = kept.meaning tables (restricted F new_nodes shape rest is tables given.0) (rows_of_tables F old_nodes shape (kept.more ++ rest) from tables given r.streams low.there) none_large
 
     is_large : IsLargeCase F at step ps ⊎ SomeIsLarge ps → IsLarge F u
     is_large h = let ls = inputs.1 in node_large F at step below chosen inputs.0 ps ls.0 ls.1 ls.2 h

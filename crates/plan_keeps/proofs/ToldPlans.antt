@@ -13,7 +13,7 @@ use Rattle.plan_laws.specs.Laws.{HaveStored, StandsOver}
 use Rattle.ps_rules.specs.Names.{Names}
 use Rattle.ps_rules.specs.Slots.{Stream}
 use Rattle.plan_rules.specs.Plans.{Progress, cache_stream, first_plan, lower_plan, lower_plans, lowering_of, nothing_yet, stream_of_cache}
-use Rattle.plan_keeps.specs.Kept.{AreKeptPlans, AreMadeOf, AreNumberedApart, IsKeptCache, IsKeptPlan, IsNumberedApart, SomeHasNumber}
+use Rattle.plan_keeps.specs.Kept.{AreKeptPlans, AreSmall, AreMadeOf, AreNumberedApart, IsKeptCache, IsKeptPlan, IsNumberedApart, SomeHasNumber}
 use Rattle.plan_keeps.proofs.Induction.{plan_lowered, plans_lowered}
 use Rattle.plan_keeps.proofs.Inputs.{AreFine, AreLowered, IsLowered, one_lowered}
 use Rattle.plan_keeps.proofs.Lists.{in_none}
@@ -57,7 +57,7 @@ module _ (F : Functions) (stored : ℕ → PlanTree) where
       by (is_ordinary o) =
           λ so kept low.
           let schema = tree_schema F (node at step below) in
-          let k = o.kept schema (AreKeptPlans F below) (lower_plans F below) p kept in
+          let k = o.kept schema (AreSmall F below) (AreKeptPlans F below) (lower_plans F below) p kept in
           let both = low k.0 in
           subst (Tells F p (node at step below)) (o.same schema (first_plan below) (lower_plans F below) p) (step_tells F stored p at step schema below o.chosen apart (lower_plans F below p) both.0 told both.1 k.1)
 

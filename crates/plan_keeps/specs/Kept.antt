@@ -3,15 +3,27 @@ use Rattle.std.specs.Prelude.{◌≡◌, ◌⊎◌, ◌<◌, ℕ, List, [], leng
 use Rattle.ps_frame.specs.Causes.{Cause}
 use Rattle.ps_frame.specs.Functions.{Functions}
 use Rattle.ps_frame.specs.Tables.{Fields, Table}
-use Rattle.ps_meaning.specs.Meaning.{IsBrokenBy, IsLarge, IsMeaning}
+use Rattle.ps_meaning.specs.Meaning.{Choice, IsAnyLarge, IsBrokenBy, IsLarge, IsMeaning}
 use Rattle.ps_meaning.specs.PlanTrees.{PlanTree, PlanTrees, missing, no_trees, node, tree}
 use Rattle.ps_meaning.specs.Schemas.{tree_schema}
 use Rattle.ps_meaning.specs.Shape.{PhysicalBrokenBy, PhysicalIsLarge, PhysicalMeans, PhysicalNode, Shape}
 use Rattle.ps_meaning.specs.Steps.{Step, cache}
 use Rattle.ps_meaning.specs.Within.{Within}
 use Rattle.ps_rules.specs.Slots.{Stream}
+use Rattle.plan_rules.specs.Nodes.{step_stream}
 use Rattle.plan_rules.specs.Plans.{LoweredPlans, Progress, lower_plan, lower_plans, stream_of_cache}
-use Rattle.step_keeps.specs.Kept.{IsKeptStep}
+use Rattle.step_keeps.specs.Kept.{SomeIsLarge}
+use Rattle.plan_keeps.specs.Small.{KeepsStepOver}
+
+-- no table at or under these nodes is large, whatever the caches give
+abbrev pub AreSmall : Functions → PlanTrees → Type 0
+AreSmall F ts = (choice : Choice) → ¬ IsAnyLarge F choice ts
+
+-- The call keeps the step; where nothing at or under its inputs is large, it need do so only over inputs of which none is.
+abbrev pub IsKeptCall : Functions → ℕ → Step → Fields → Type 0 → LoweredPlans → Type 0
+IsKeptCall F at step schema small r =
+    let m = step_stream at F step schema r.streams r.progress.state in
+    KeepsStepOver (λ ts. small → ¬ SomeIsLarge ts) F at step r.progress.state m.state r.streams m.stream
 
 -- where a cache id has a stream no call is made
 abbrev pub IsKeptCache : Option Stream → Type 0 → Type 0
@@ -19,13 +31,13 @@ IsKeptCache (Some stream) below = ⊤
 IsKeptCache None below = below
 
 -- what is below is kept, and the call of the step over it keeps the step
-abbrev pub IsKeptNode : Functions → ℕ → Step → Fields → (Progress → Type 0) → (Progress → LoweredPlans) → Progress → Type 0
-IsKeptNode F at (cache id) schema below lower p = IsKeptCache (stream_of_cache id p.cached) (below p)
-IsKeptNode F at step schema below lower p = below p × IsKeptStep F at step schema (lower p).streams (lower p).progress.state
+abbrev pub IsKeptNode : Functions → ℕ → Step → Fields → Type 0 → (Progress → Type 0) → (Progress → LoweredPlans) → Progress → Type 0
+IsKeptNode F at (cache id) schema small below lower p = IsKeptCache (stream_of_cache id p.cached) (below p)
+IsKeptNode F at step schema small below lower p = below p × IsKeptCall F at step schema small (lower p)
 
 abbrev mutual
   pub IsKeptPlan : Functions → PlanTree → Progress → Type 0
-  IsKeptPlan F (node at step below) = IsKeptNode F at step (tree_schema F (node at step below)) (AreKeptPlans F below) (lower_plans F below)
+  IsKeptPlan F (node at step below) = IsKeptNode F at step (tree_schema F (node at step below)) (AreSmall F below) (AreKeptPlans F below) (lower_plans F below)
   IsKeptPlan F missing = λ p. ⊥
 
   pub AreKeptPlans : Functions → PlanTrees → Progress → Type 0

@@ -1,5 +1,5 @@
 -- Each call that a plan of steps of kept kinds makes keeps its step.
-use Rattle.std.proofs.Common.{ℕ, ◌≤◌, ◌^◌, Option, Some, None, refl, sym, subst, arith}
+use Rattle.std.proofs.Common.{ℕ, ◌≤◌, ◌^◌, Option, Some, None, refl, sym, subst, inl, inr, arith}
 use Rattle.ps_frame.specs.Functions.{Functions}
 use Rattle.ps_meaning.specs.PlanTrees.{PlanTree, PlanTrees, missing, no_trees, node, tree}
 use Rattle.ps_meaning.specs.Schemas.{tree_schema, tree_schemas}
@@ -8,14 +8,15 @@ use Rattle.ps_rules.specs.Names.{Names}
 use Rattle.ps_rules.specs.Slots.{Stream}
 use Rattle.plan_laws.specs.Laws.{HaveStored, IsCacheOf, StandsOver}
 use Rattle.plan_rules.specs.Plans.{LoweredPlan, Progress, cache_stream, first_plan, lower_plan, lower_plans, lowering_of, nothing_yet, stream_of_cache, stream_over}
-use Rattle.plan_keeps.specs.Kept.{AreKeptPlans, IsKeptCache, IsKeptPlan}
+use Rattle.plan_keeps.specs.Kept.{AreKeptPlans, AreSmall, IsKeptCache, IsKeptCall, IsKeptPlan}
 use Rattle.plan_keeps.proofs.Ordinary.{CacheOr, cache_or, is_cache, is_ordinary}
+use Rattle.plan_keeps.proofs.Small.{kept_call, small_call}
 use Rattle.rule_parts.specs.Good.{IsGoodStep}
 use Rattle.rule_parts.proofs.Growing.{step_grows}
 use Rattle.rule_soundness.specs.Plans.{AreGoodPlans, IsGoodPlan, KnowPlans, KnowsPlan}
 use Rattle.rule_soundness.proofs.Plans.{IsGoodProgress, LowersAll, all_known_later, known_later, nothing_good, plan_grows, plan_lowers, plans_grow, plans_lower, schemas_known}
-use Rattle.plans_keep.specs.Kinds.{AreOfKeptKinds, IsOfKeptKind, IsOfKeptKinds}
-use Rattle.plans_keep.proofs.Steps.{step_kept}
+use Rattle.plans_keep.specs.Kinds.{AreOfKeptKinds, IsKeptAbove, IsOfKeptKinds}
+use Rattle.plans_keep.proofs.Steps.{step_counted, step_kept}
 
 lower : (a b top : ℕ) → a ≤ b → b ≤ top → a ≤ top
 lower a b top more small = omega arith
@@ -29,7 +30,7 @@ module _ (F : Functions) (stored : ℕ → PlanTree) where
   -- what is to be shown of a node
   abbrev NodeGoal : ℕ → PlanTrees → Progress → Step → Type 0
   NodeGoal at below p step =
-      IsGoodStep F step (tree_schemas F below) → IsOfKeptKind step → KnowsPlan F p.state.names (node at step below) → (lower_plan F (node at step below) p).progress.state.names.next ≤ 2 ^ 64 → IsKeptPlan F (node at step below) p
+      IsGoodStep F step (tree_schemas F below) → IsKeptAbove F step below → KnowsPlan F p.state.names (node at step below) → (lower_plan F (node at step below) p).progress.state.names.next ≤ 2 ^ 64 → IsKeptPlan F (node at step below) p
 
   node_kept : (at : ℕ) (step : Step) (below : PlanTrees) (p : Progress) → ((lower_plans F below p).progress.state.names.next ≤ 2 ^ 64 → AreKeptPlans F below p × LowersAll F stored p (lower_plans F below p) (tree_schemas F below)) → NodeGoal at below p step
   node_kept at step below p under = by (cache_or F at step)
@@ -46,8 +47,11 @@ module _ (F : Functions) (stored : ℕ → PlanTree) where
           let more = (step_grows at F step schema low.streams low.progress.state).1 in
           let u = under (lower b.next (stream_over F at step schema low).progress.state.names.next (2 ^ 64) more lt) in
           let later = known_later F a b (node at step below) (plans_grow F below p) known in
-          let kept = step_kept F at low.progress.state step low.streams (tree_schemas F below) (λ id e. o.other id (subst (IsCacheOf id) e refl)) u.1.good.sound u.1.streams good kind (later.0, schemas_known F b below later.1) lt in
-          o.back schema (AreKeptPlans F below) (lower_plans F below) p (u.0, kept)
+          let call : IsKeptCall F at step schema (AreSmall F below) low = elim kind [
+            | inl k ↦ kept_call F at step schema (AreSmall F below) low (step_kept F at low.progress.state step low.streams (tree_schemas F below) (λ id e. o.other id (subst (IsCacheOf id) e refl)) u.1.good.sound u.1.streams good k (later.0, schemas_known F b below later.1) lt)
+            | inr c ↦ small_call F at step schema (AreSmall F below) c.1 low (step_counted F at low.progress.state step low.streams (tree_schemas F below) u.1.good.sound u.1.streams good c.0 (later.0, schemas_known F b below later.1) lt).0
+          ] in
+          o.back schema (AreSmall F below) (AreKeptPlans F below) (lower_plans F below) p (u.0, call)
 
   mutual
     plan_kept : (t : PlanTree) → StandsOver stored t → IsGoodPlan F t → IsOfKeptKinds F t → (p : Progress) → IsGoodProgress F stored p → KnowsPlan F p.state.names t → (lower_plan F t p).progress.state.names.next ≤ 2 ^ 64 → IsKeptPlan F t p

@@ -1,5 +1,5 @@
 -- The call of a step of a kept kind keeps it, over streams of a shape that is sound but for its readers.
-use Rattle.std.proofs.Common.{◌≡◌, ◌≢◌, ◌⊎◌, inl, inr, ℕ, ◌≤◌, ◌^◌, Bool, true, false, cond, List, [], ◌∷◌, ◌++◌, ◌&&◌, take, length, Option, Some, None, refl, sym, ap, subst, ◌∙◌, arith}
+use Rattle.std.proofs.Common.{◌≡◌, ◌≢◌, inl, ℕ, ◌≤◌, ◌^◌, Bool, true, false, cond, List, [], ◌∷◌, ◌++◌, ◌&&◌, take, length, Option, Some, None, refl, sym, ap, subst, ◌∙◌, arith}
 use Rattle.std.proofs.lemmas.List.{append-nil}
 use Rattle.std.specs.Prelude.{IsSomeAnd, IsTrue, drop, option_map, unwrap_or}
 use Rattle.std.specs.List.{AllByRecursion, list_all}
@@ -11,28 +11,30 @@ use Rattle.ps_frame.specs.Trees.{Tree}
 use Rattle.ps_frame.specs.Typing.{is_elementwise}
 use Rattle.ps_meaning.proofs.HStackFits.{distinct-from}
 use Rattle.ps_meaning.specs.Joins.{goes_by_left}
-use Rattle.ps_meaning.specs.Schemas.{expr_names, fields_of, named_fields, names_of, put_fields, schema_or_empty}
+use Rattle.ps_meaning.specs.Schemas.{expr_names, fields_of, is_among, named_fields, names_of, put_fields, schema_or_empty}
 use Rattle.ps_meaning.specs.Shape.{Shape, equi_join, filter_node, group_by_node, in_memory_join, select_node}
 use Rattle.ps_meaning.specs.Sound.{IsSoundButForReaders, have_all_kinds}
-use Rattle.ps_meaning.specs.StepRefusals.{column_not_found, duplicate, lacks_name, repeats}
+use Rattle.ps_meaning.specs.StepRefusals.{column_not_found, duplicate, unsupported, lacks_name, repeats}
+use Rattle.ps_frame.specs.declared.expr.What.TheVariants as what
 use Rattle.ps_meaning.specs.Steps.{DistinctStep, GroupStep, JoinStep, Name, Named, Step, cache, distinct, exprs_of, filter, group_by, hconcat, hstack, join, left_out, project, row_index, scan, select, sink, slice, sort, union, user}
 use Rattle.ps_plan.proofs.TypedSteps.{output-distinct}
 use Rattle.ps_rules.specs.Lowered.{lower_exprs, select_stream}
-use Rattle.ps_rules.specs.Names.{IsKnown, Names}
+use Rattle.ps_rules.proofs.Free.{fresh_unknown}
+use Rattle.ps_rules.specs.Names.{IsKnown, Names, after_fresh}
 use Rattle.ps_rules.specs.Rules.{first_tree}
-use Rattle.ps_rules.specs.Slots.{Made, State, Stream, columns_named, over, over_same, over_selected, schema_at, selected_schema, under}
+use Rattle.ps_rules.specs.Slots.{Made, State, Stream, columns_named, new_name, over, over_same, over_selected, schema_at, selected_schema, under}
 use Rattle.ps_shares.proofs.Growing.{columns_names}
 use Rattle.ps_shares.specs.Kept.{IsReady}
 use Rattle.ps_bundles.proofs.Lowers.{selects_keep as select_ends}
 use Rattle.ps_bundles.proofs.Reading.{has_fields}
 use Rattle.name_rules.proofs.Ruling.{field_names, typed_fields}
 use Rattle.lowering_sizes.proofs.Sizes.{selects_stay_small}
-use Rattle.plan_rules.specs.Distinct.{keeps_last, keeps_none}
+use Rattle.plan_rules.specs.Distinct.{distinct_stream, keeps_last, keeps_none}
 use Rattle.plan_rules.specs.Groups.{can_stream, columns_over, group_stream, mapped_groups, own_columns, streamed_groups}
 use Rattle.plan_rules.specs.Joins.{equi_join_stream, join_stream, keyed_join, over_both}
 use Rattle.plan_rules.specs.Nodes.{extended_apart, filter_stream, hstack_stream, step_stream}
 use Rattle.plan_rules.specs.Reductions.{split_aggregates}
-use Rattle.step_keeps.specs.Kept.{IsKeptStep, IsPlainReduction}
+use Rattle.step_keeps.specs.Kept.{IsKeptStep}
 use Rattle.step_keeps.proofs.Cuts.{slices_keep, unions_keep}
 use Rattle.step_keeps.proofs.Mapped.{columns_by_cell_keep, mapped_distincts_keep, mapped_groups_keep}
 use Rattle.step_keeps.proofs.Scans.{scans_keep, whole_scans_keep}
@@ -43,7 +45,7 @@ use Rattle.distinct_keeps.proofs.Firsts.{first_distincts_keep}
 use Rattle.join_keeps.proofs.Joins.{joins_keep}
 use Rattle.last_keeps.proofs.Lasts.{last_distincts_keep}
 use Rattle.filter_keeps.proofs.Filters.{filters_keep}
-use Rattle.group_keeps.proofs.Streams.{groups_keep}
+use Rattle.aggregates_keep.proofs.Streams.{streamed_groups_keep}
 use Rattle.select_keeps.proofs.Selects.{selects_keep}
 use Rattle.rule_parts.specs.Good.{AreStreams, IsGoodStep, IsStream, KnowsNames}
 use Rattle.rule_parts.proofs.Columns.{own_found, own_itself}
@@ -51,11 +53,13 @@ use Rattle.rule_parts.proofs.Grouped.{have_both, have_parts}
 use Rattle.rule_parts.proofs.Growing.{select_grows}
 use Rattle.rule_parts.proofs.Inputs.{own_schema}
 use Rattle.rule_parts.proofs.Passing.{all_stand, cut_names, good_some, good_there}
-use Rattle.rule_parts.proofs.Reduced.{split_grows}
 use Rattle.rule_parts.proofs.Standing.{schema_is, sound_distinct, sound_some}
 use Rattle.rule_nodes.proofs.Calls.{all_among, ready}
 use Rattle.rule_nodes.proofs.Further.{own_typed}
-use Rattle.plans_keep.specs.Kinds.{IsOfKeptKind}
+use Rattle.plan_keeps.specs.Small.{IsKeptSmallStep}
+use Rattle.none_keeps.specs.Stays.{TablesStayWithin}
+use Rattle.none_keeps.proofs.Singles.{names_after, single_distincts_keep, single_distincts_stay}
+use Rattle.plans_keep.specs.Kinds.{CountsRows, IsOfKeptKind}
 
 -- streams of no, of one and of two schemas
 module _ (nodes : Shape) (P : List Stream → List Fields → Type 0) where
@@ -84,12 +88,9 @@ module _ (nodes : Shape) (P : List Stream → List Fields → Type 0) where
       let b = schema_is nodes j t h.1.0 in
       subst (λ (fs : List Fields). P (i ∷ j ∷ []) fs) (λ k. a k ∷ b k ∷ []) (p i j (own_schema nodes i s h.0) (own_schema nodes j t h.1.0))
 
-never : false ≡ true → ⊥
-never e = cc
-
 -- counters along a call
-still_small : (a b c d top : ℕ) → a ≤ b → b ≤ c → d ≡ c → d ≤ top → a ≤ top
-still_small a b c d top le more same small = omega arith
+still_small : (b c d top : ℕ) → b ≤ c → d ≡ c → d ≤ top → b ≤ top
+still_small b c d top more same small = omega arith
 
 -- what is asked for beside all columns
 some_exprs : (f : Fields) (es : List Named) → unwrap_or (fields_of es f) [] ≢ [] → exprs_of es ≢ []
@@ -188,32 +189,30 @@ module _ (F : Functions) (at : ℕ) (s : State) (sound : IsSoundButForReaders F 
         by true q small = columns_by_cell_keep F at out i s es q
         by false q small = apart q small
 
-    group_kept : (o : GroupStep) → IsGoodStep F (group_by o) ss → IsOfKeptKind (group_by o) → (group_stream at o i s).state.names.next ≤ 2 ^ 64 → IsKeptStep F at (group_by o) (schema_or_empty F (group_by o) ss) (i ∷ []) s
-    group_kept o good kind = by (can_stream o) refl kind
+    group_kept : (o : GroupStep) → IsGoodStep F (group_by o) ss → KnowsNames s.names (schema_or_empty F (group_by o) ss) → (group_stream at o i s).state.names.next ≤ 2 ^ 64 → IsKeptStep F at (group_by o) (schema_or_empty F (group_by o) ss) (i ∷ []) s
+    group_kept o good known_out = by (can_stream o) refl
       where
         out : Fields
         out = schema_or_empty F (group_by o) ss
 
-        streamed : can_stream o ≡ true → AllByRecursion (λ (e : Named). IsPlainReduction e.1) o.aggregates → (streamed_groups at o i s).state.names.next ≤ 2 ^ 64 → IsKeptStep F at (group_by o) out (i ∷ []) s
-        streamed q plain small =
+        streamed : can_stream o ≡ true → (streamed_groups at o i s).state.names.next ≤ 2 ^ 64 → IsKeptStep F at (group_by o) out (i ∷ []) s
+        streamed q small =
             let asked = exprs_of o.keys ++ columns_over i s in
             let a = lower_exprs at i asked s in
             let split = split_aggregates o.aggregates a.state.names in
             let keys = under (expr_names o.keys) a.exprs in
-            let g = over_selected at (group_by_node keys split.reductions) (keys ++ split.reductions) a.stream (record { nodes = a.state.nodes; names = split.names }) in
+            let g = over_selected at (group_by_node keys split.reductions) (keys ++ split.reductions) a.stream (record a.state { names = split.names }) in
             let shown = own_columns (expr_names o.keys) ++ split.above in
             let m = select_stream at g.stream shown g.state in
-            let more = (split_grows o.aggregates (record { names = a.state.names; reductions = []; above = [] })).1 in
-            let still_more = (select_grows at g.stream shown g.state).1 in
+            let more = (select_grows at g.stream shown g.state).1 in
             let same = ap (λ (x : Names). x.next) (cut_names at o.cut m.stream m.state) in
-            let low = still_small a.state.names.next split.names.next m.state.names.next (streamed_groups at o i s).state.names.next (2 ^ 64) more still_more same small in
-            groups_keep F at out s i o q plain (λ e. good.key e) some (good_there F (group_by o) ss good) (output-distinct F (group_by o) ss good.typed.rules)
+            let low = still_small split.names.next m.state.names.next (streamed_groups at o i s).state.names.next (2 ^ 64) more same small in
+            streamed_groups_keep F at out s i o q (λ k. good.typed.rules (unsupported what.LiteralAggregate) k) (λ e. good.key e) some (good_there F (group_by o) ss good) (output-distinct F (group_by o) ss good.typed.rules) known_out
             (beside_keys o.keys (λ e. good.key e) (have_parts f (exprs_of o.keys) (exprs_of o.aggregates) good.typed.kinds).0) low
 
-        by : (b : Bool) → can_stream o ≡ b → (b ≡ false) ⊎ AllByRecursion (λ (e : Named). IsPlainReduction e.1) o.aggregates → (cond {A = Stream → State → Made} b (streamed_groups at o) (mapped_groups at o) i s).state.names.next ≤ 2 ^ 64 → IsKeptStep F at (group_by o) out (i ∷ []) s
-        by false q kind small = mapped_groups_keep F at out i s o q
-        by true q (inl whole) small = absurd (never (sym whole))
-        by true q (inr plain) small = streamed q plain small
+        by : (b : Bool) → can_stream o ≡ b → (cond {A = Stream → State → Made} b (streamed_groups at o) (mapped_groups at o) i s).state.names.next ≤ 2 ^ 64 → IsKeptStep F at (group_by o) out (i ∷ []) s
+        by false q small = mapped_groups_keep F at out i s o q
+        by true q small = streamed q small
 
     distinct_kept : (o : DistinctStep) → IsGoodStep F (distinct o) ss → keeps_none o.keep ≡ false → (schema : Fields) → IsKeptStep F at (distinct o) schema (i ∷ []) s
     distinct_kept o good few schema = by (keeps_last o.keep) refl o.maintain_order refl
@@ -225,6 +224,19 @@ module _ (F : Functions) (at : ℕ) (s : State) (sound : IsSoundButForReaders F 
         by false q m p = first_distincts_keep F at s i o q few some once keys.fields keys.found keys.some schema
         by true q true p = mapped_distincts_keep F at schema i s o (λ j. p j && q j)
         by true q false p = last_distincts_keep F at s i o q p some once keys.fields keys.found keys.some schema
+
+    -- where the rows of each key are counted, over inputs that aren't large, and in tables over any
+    single_kept : (o : DistinctStep) → IsGoodStep F (distinct o) ss → keeps_none o.keep ≡ true → (distinct_stream at o i s).state.names.next ≤ 2 ^ 64 → (schema : Fields) → IsKeptSmallStep F at (distinct o) schema (i ∷ []) s × TablesStayWithin F at (distinct o) schema (i ∷ []) s
+    single_kept o good none small schema =
+        let keys = keys_there f some once o.subset (λ e. good.key e) (λ n h. good.typed.rules (column_not_found n) h) in
+        let grown = names_after F at s i o none some once keys.fields keys.found keys.some in
+        let low : (after_fresh s.names).next ≤ 2 ^ 64 = subst (λ (x : Names). x.next ≤ 2 ^ 64) grown small in
+        let fresh = fresh_differs low (is_among (new_name s) (names_of f)) refl in
+        (single_distincts_keep F at s i o none some once keys.fields keys.found keys.some fresh schema, single_distincts_stay F at s i o none some once keys.fields keys.found keys.some fresh schema)
+      where
+        fresh_differs : (after_fresh s.names).next ≤ 2 ^ 64 → (b : Bool) → is_among (new_name s) (names_of f) ≡ b → is_among (new_name s) (names_of f) ≡ false
+        fresh_differs low true q = absurd (fresh_unknown s.names low (known (new_name s) q))
+        fresh_differs low false q = q
 
   -- over two streams
   module _ (l r : Stream) (left : IsStream s.nodes l (schema_at s.nodes l)) (right : IsStream s.nodes r (schema_at s.nodes r)) (known_l : KnowsNames s.names (schema_at s.nodes l)) (known_r : KnowsNames s.names (schema_at s.nodes r)) where
@@ -292,7 +304,23 @@ step_kept F at s step inputs ss other sound streams good = by step other good
     by (union cut) other = λ good kind known small. unions_keep F at (schema_or_empty F (union cut) ss) s cut inputs
     by hconcat other = λ good kind known small. hconcats_keep F at (schema_or_empty F hconcat ss) s inputs
     by (cache id) other = absurd (other id refl)
-    by (group_by o) other = λ good. one (group_by o) good.inputs (λ i stream good kind known small. group_kept F at s sound i stream known.1.0 o good kind small) good
+    by (group_by o) other = λ good. one (group_by o) good.inputs (λ i stream good kind known small. group_kept F at s sound i stream known.1.0 o good known.0 small) good
     by (join o) other = λ good. over_two s.nodes (Gives F at s (join o)) inputs ss streams good.inputs (λ l r left right good kind known small. join_kept F at s sound l r left right known.1.0 known.1.1.0 o good known.0 small) good
     by (distinct o) other = λ good. one (distinct o) good.inputs (λ i stream good kind known small. distinct_kept F at s sound i stream known.1.0 o good kind (schema_at s.nodes i)) good
     by (left_out what) other = λ good. absurd good.inputs
+
+-- what a step that counts rows owes
+abbrev Counted : Functions → ℕ → State → Step → List Stream → List Fields → Type 0
+Counted F at s step is ss =
+    let out = schema_or_empty F step ss in
+    CountsRows step → AllByRecursion (KnowsNames s.names) (out ∷ ss) → (step_stream at F step out is s).state.names.next ≤ 2 ^ 64 → IsKeptSmallStep F at step out is s × TablesStayWithin F at step out is s
+
+pub step_counted : (F : Functions) (at : ℕ) (s : State) (step : Step) (inputs : List Stream) (ss : List Fields) → IsSoundButForReaders F s.nodes → AreStreams s.nodes inputs ss → IsGoodStep F step ss → CountsRows step → AllByRecursion (KnowsNames s.names) (schema_or_empty F step ss ∷ ss)
+    → (step_stream at F step (schema_or_empty F step ss) inputs s).state.names.next ≤ 2 ^ 64 → IsKeptSmallStep F at step (schema_or_empty F step ss) inputs s × TablesStayWithin F at step (schema_or_empty F step ss) inputs s
+step_counted F at s step inputs ss sound streams good = by step good
+  where
+    by : (step : Step) → IsGoodStep F step ss → Counted F at s step inputs ss
+    by (distinct o) =
+        λ good.
+        over_one s.nodes (λ is ss. IsGoodStep F (distinct o) ss → Counted F at s (distinct o) is ss) inputs ss streams good.inputs (λ i stream good none known small. single_kept F at s sound i stream known.1.0 o good none small (schema_at s.nodes i)) good
+    by _ = λ good none. absurd none
