@@ -1,0 +1,9 @@
+pub mod Caches
+pub mod Induction
+pub mod Inputs
+pub mod Kept
+pub mod OneStep
+pub mod Ordinary
+pub mod Told
+pub mod ToldCaches
+pub mod ToldPlans

@@ -1,0 +1,4 @@
+//! Laws of single steps over tables that lie within others. No code.
+#![tactic(auto)]
+
+pub mod laws;
