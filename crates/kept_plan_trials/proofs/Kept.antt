@@ -1,5 +1,5 @@
 -- A plan of such entries is one of steps of kept kinds.
-use Rattle.std.proofs.Common.{◌≡◌, ℕ, suc, ◌+◌, ◌<◌, ◌≤◌, ◌⊎◌, inl, inr, List, [], ◌∷◌, length, slice_get, Option, Some, None, sym, ap, subst, refl, arith}
+use Rattle.std.proofs.Common.{◌≡◌, ℕ, ◌+◌, ◌<◌, ◌≤◌, ◌⊎◌, inl, inr, List, [], ◌∷◌, length, slice_get, Option, Some, None, sym, subst, refl, arith}
 use Rattle.std.specs.Prelude.{Contains, IfSome}
 use Rattle.std.proofs.lemmas.Bool.{cases_lt}
 use Rattle.std.proofs.lemmas.Option.{slice_get_within}
@@ -48,7 +48,7 @@ module _ (F : Functions) (plan : Plan) (valid : IsValid F plan) (kept : (n : ℕ
       let e = entered F plan valid n reached in
       let below = entry_inputs e.entry in
       let own = subst (λ (o : Option IR). IfSome o IsAlwaysKept) e.there (kept n) in
-      subst (IsOfKeptKinds F) (sym e.is) (own (tree_at plan.exprs), all_kinds below (λ m c. all m (named_inputs F plan valid n e.entry e.there m c)))
+      subst (IsOfKeptKinds F) (sym e.is) (inl (own (tree_at plan.exprs)), all_kinds below (λ m c. all m (named_inputs F plan valid n e.entry e.there m c)))
 
   pub plan_kinds : IsOfKeptKinds F (tree_of plan plan.root.0)
   plan_kinds = along F plan valid (λ n. IsOfKeptKinds F (tree_of plan n)) step_kinds plan.root.0 here

@@ -6,7 +6,6 @@ ghost use Rattle.kept_plan_trials.specs.Always.{IsAlwaysKept};
 use ps_plan::ir::{IR, UniqueKeepStrategy};
 use pu_base::{Arena, Node};
 
-// Of group-bys that may stream some are kept too; their aggregates aren't looked at here.
 fn is_always_kept(entry: &IR) -> bool
     ensures { OnTrue result (IsAlwaysKept entry.now) }
 {
@@ -23,7 +22,7 @@ fn is_always_kept(entry: &IR) -> bool
         IR::Union { .. } => true,
         IR::HConcat { .. } => true,
         IR::Cache { .. } => true,
-        IR::GroupBy { maintain_order, .. } => *maintain_order,
+        IR::GroupBy { .. } => true,
         IR::Join { .. } => true,
         IR::Distinct { options, .. } => match options.keep_strategy {
             UniqueKeepStrategy::First => true,

@@ -90,9 +90,8 @@ fn lowered(alloc: Global, nodes: &str) -> Result<Option<String>, Fail> {
     Ok(Some(line))
 }
 
-// The plans of which it isn't said: a group-by that streams, and a distinct that keeps rows without an equal.
+// The plan of which it isn't said with no condition: a distinct that keeps rows without an equal.
 const OTHERS: &str = r#"
-["scan",0,null]; ["group_by",0,[["a",0]],[["s",8]],false,null]; ["sink",1]
 ["scan",0,null]; ["distinct",0,["b","a"],false,"none",[0,5]]; ["sink",1]
 "#;
 
