@@ -1,0 +1,7 @@
+mod Reached
+mod Streaming
+mod Standing
+mod Moves
+mod HandIns
+mod Ending
+mod Answering

@@ -1,0 +1,5 @@
+pub mod Choices
+pub mod Faults
+pub mod Changed
+pub mod Whole
+pub mod Holding
