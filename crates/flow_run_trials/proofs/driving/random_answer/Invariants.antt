@@ -1,0 +1,5 @@
+use Rattle.flow_run_trials.specs.Driven.{IsUnderWay}
+use Rattle.flow_run_trials.proofs.driving.random_answer.Given as goal
+
+abbrev pub invariant-loop-step : goal.invariant-loop-step
+invariant-loop-step g l = IsUnderWay g.N.RunNode.Has g.N.PieceNode.Shows g.N.ClaimNode.IsFor (g.C.ComputePiece.told l.functions) l.run
