@@ -1,3 +1,2 @@
 pub mod Endings
 pub mod Lowers
-pub mod Examples

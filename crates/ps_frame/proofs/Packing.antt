@@ -1,8 +1,8 @@
 -- Few values that stand in many cells.
-use Rattle.std.proofs.Common.{◌≡◌, ℕ, ◌+◌, ◌<◌, List, [], ◌∷◌, ◌++◌, length, take, get_or, refl, sym, ◌∙◌, ap, Bool, true, Option, Result, Ok, Err, OnErr, append_assoc}
+use Rattle.std.proofs.Common.{◌≡◌, ℕ, ◌+◌, ◌<◌, List, [], ◌∷◌, ◌++◌, length, take, drop, get_or, refl, sym, ◌∙◌, ap, Bool, true, false, Option, Result, Ok, Err, OnErr, append_assoc, arith, length-drop}
 use Rattle.std.specs.Prelude.{if◌then◌else◌, map, slice_get, Some}
 use Rattle.std.specs.List.{All, AllByRecursion}
-use Rattle.std.proofs.lemmas.List.{get_or_append_left, get_or_at, map-append, take_more}
+use Rattle.std.proofs.lemmas.List.{get_or_append_left, get_or_at, map-append, take_more, take_all, take-append-drop}
 use Rattle.std.proofs.lemmas.List.Elements.{recursion_from_All}
 use Rattle.std.proofs.lemmas.Option.{get_or_from_slice_get}
 use Rattle.ps_frame.proofs.Gathers.{below-places, take-value}
@@ -39,13 +39,16 @@ module _ {A : Type 0} (d : A) where
       through-push wide places new n x (ap (λ xs. get_or xs n d) made ∙ get_or_at few x [] d n (sym is)) more
       ∙ ap (λ xs. xs ++ x ∷ []) (through-wider few wide x places h made)
 
--- what a refused call promises, and what a call that is taken does
+-- what a refused call promises, and what a call does that is taken, and one that isn't
 pub on_err : {T E P : Type 0} (r : Result T E) → P → OnErr r P
 on_err (Ok x) p = tt
 on_err (Err e) p = p
 
 pub was_taken : (taken : Bool) (before after new : Series) → new ≡ (if taken then after else before) → taken ≡ true → new ≡ after
 was_taken taken before after new h e = h ∙ ap (λ (t : Bool). if t then after else before) e
+
+pub was_left : (taken : Bool) (before after new : Series) → new ≡ (if taken then after else before) → taken ≡ false → new ≡ before
+was_left taken before after new h e = h ∙ ap (λ (t : Bool). if t then after else before) e
 
 -- a column by its kind and values
 abbrev typed : DataType → List Value → Series
@@ -93,3 +96,13 @@ pushed-row c rows i row d t new before made there is =
 -- two columns one above the other, pushed one after the other
 pub above-both : (upper lower none one two : Series) → none ≡ typed upper.kind [] → one ≡ above none upper → two ≡ above one lower → two ≡ above upper lower
 above-both upper lower none one two e f g = g ∙ ap (λ (c : Series). above c lower) (f ∙ ap (λ (c : Series). above c upper) e)
+
+-- the first values of a column put at the end, and then the others
+pub above-parts : (start c one part : Series) (n len : ℕ) → one ≡ typed start.kind (start.values ++ take n c.values) → part ≡ typed c.kind (take len (drop n c.values)) → len ≡ length c.values → above one part ≡ above start c
+above-parts start c one part n len e f g =
+    (λ t. above (e t) (f t))
+    ∙ ap (typed start.kind) (
+    append_assoc start.values (take n c.values) (take len (drop n c.values))
+    ∙ ap (λ vs. start.values ++ (take n c.values ++ vs)) (take_all len (drop n c.values) (omega (arith, length-drop n c.values)))
+    ∙ ap (λ vs. start.values ++ vs) (take-append-drop n c.values)
+    )

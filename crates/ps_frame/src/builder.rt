@@ -1,11 +1,11 @@
 // A column that is made value by value.
-ghost use Rattle.std.specs.Prelude.{◌≡◌, ◌≢◌, ◌↔◌, [], Err, IfOk, IsFalse, IsTrue, OnErr, OnOk, ◌++◌, if◌then◌else◌};
+ghost use Rattle.std.specs.Prelude.{◌≡◌, ◌≢◌, ◌↔◌, [], Err, IfOk, IsFalse, IsTrue, OnErr, OnOk, ◌++◌, if◌then◌else◌, take};
 ghost use Rattle.ps_frame.specs.Frames.{above};
 ghost use Rattle.ps_frame.specs.Pushed.{with_value};
 ghost use Rattle.ps_frame.specs.Series.{Series, all_fit};
 ghost use Rattle.ps_frame.specs.Values.{fits_kind};
 
-use crate::column::Column;
+use crate::column::{Column, push_clones};
 use crate::error::FrameError;
 use crate::packed::Packed;
 use crate::runs::MOST_RUNS;
@@ -238,8 +238,14 @@ impl ColumnBuilder {
             return self.sharing(alloc, column);
         }
         let mut builder = self;
-        builder.push_values(alloc, column)?;
-        Ok(builder)
+        let height = column.len();
+        let count = builder.push_packed_values(alloc, column)?;
+        if count == height {
+            return Ok(builder);
+        }
+        builder.unpack(alloc)?;
+        let rest = column.slice(alloc, count, height)?;
+        builder.with_clones(alloc, &rest)
     }
 
     // Whether it pays to share the values of a column, and there is room for its runs, for what was
@@ -269,28 +275,37 @@ impl ColumnBuilder {
         })
     }
 
-    fn push_values(&mut self, alloc: Global, column: &Column) -> Result<(), FrameError>
+    // Puts the first values of a column at the end of the packed ones, where they may and there is room: how many is the answer.
+    fn push_packed_values(&mut self, alloc: Global, column: &Column) -> Result<usize, FrameError>
         requires { self.old.kind ≡ column.now.kind }
-        ensures added { OnOk result (self.new ≡ above self.old column.now) }
+        ensures added { IfOk result (λ count. self.new ≡ record { kind = self.old.kind; values = self.old.values ++ take count column.now.values }) }
     {
-        // A law: each value fits the kind, as `push_copy` asks.
-        column.values_fit();
-        for i in 0..column.len() {
-            self.push_copy(alloc, column.value(i))?;
+        // Once values stand apart, the next ones do too.
+        if !self.rest.is_empty() {
+            return Ok(0);
         }
-        Ok(())
+        self.packed.push_first(alloc, column)
     }
 
-    // Puts an equal value at the end.
-    fn push_copy(&mut self, alloc: Global, value: &Value) -> Result<(), FrameError>
-        requires { IsTrue (fits_kind self.old.kind value.now) }
-        ensures added { OnOk result (self.new ≡ with_value self.old value.now) }
+    // Puts the values of a column at the end, each in a cell of its own, without a look for any of them.
+    fn with_clones(self, alloc: Global, column: &Column) -> Result<ColumnBuilder, FrameError>
+        requires { self.kind ≡ column.now.kind }
+        ensures added { IfOk result (λ builder. builder ≡ above self column.now) }
     {
-        if self.push_packed(alloc, value)? {
-            return Ok(());
-        }
-        self.unpack(alloc)?;
-        self.push_apart(value.try_clone(alloc)?)
+        // A law: what is put in fits the kind, as `rest` has to.
+        column.values_fit();
+        let ColumnBuilder {
+            front,
+            packed,
+            rest,
+        } = self;
+        let mut rest = rest;
+        push_clones(alloc, &mut rest, column)?;
+        Ok(ColumnBuilder {
+            front,
+            packed,
+            rest,
+        })
     }
 
     /// The column of the values.

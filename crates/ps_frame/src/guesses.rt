@@ -131,8 +131,8 @@ impl Guesses {
     }
 }
 
-// Whether that value stands at the place.
-fn stands_at(values: &[Value], place: u32, value: &Value) -> bool
+/// Whether that value stands at the place.
+pub(crate) fn stands_at(values: &[Value], place: u32, value: &Value) -> bool
     ensures { IsTrue result → slice_get values.now place ≡ Some value.now }
 {
     match values.get(place as usize) {

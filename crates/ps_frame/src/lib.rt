@@ -4,13 +4,13 @@
 pub mod builder;
 pub mod column;
 pub mod error;
-pub mod examples;
 pub mod expr;
 mod fields;
 pub mod frame;
 pub mod frame_builder;
 pub mod functions;
 mod guesses;
+mod hints;
 pub mod items;
 pub mod laws;
 mod packed;

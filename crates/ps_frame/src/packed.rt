@@ -1,5 +1,5 @@
 // Few values that stand in many cells: each is held once, and a cell tells its place among them.
-ghost use Rattle.std.specs.Prelude.{◌≡◌, ◌<◌, [], Err, IfOk, IfSome, IsTrue, OnErr, if◌then◌else◌, length};
+ghost use Rattle.std.specs.Prelude.{◌≡◌, ◌<◌, ◌++◌, [], Err, IfOk, IfSome, IsTrue, OnErr, if◌then◌else◌, length, take};
 ghost use Rattle.std.specs.List.{All};
 ghost use Rattle.ps_frame.specs.Frames.{above};
 ghost use Rattle.ps_frame.specs.Gathered.{gathered_or_null, value_or_null};
@@ -11,7 +11,9 @@ ghost use Rattle.ps_frame.specs.Zip.{below};
 use crate::column::{Column, clones_at};
 use crate::error::FrameError;
 use crate::guesses::Guesses;
+use crate::hints::Hints;
 use crate::value::{DataType, Value};
+use crate::view::ColumnView;
 use std::alloc::Global;
 use std::marker::Model;
 
@@ -46,6 +48,7 @@ pub(crate) struct Packed {
     few: Vec<Value>,
     places: Vec<u32>,
     guesses: Guesses,
+    hints: Hints,
 }
 
 impl Model for Packed {
@@ -71,6 +74,7 @@ impl Packed {
             few: Vec::new(alloc),
             places: Vec::new(alloc),
             guesses: Guesses::new(alloc),
+            hints: Hints::new(alloc),
         }
     }
 
@@ -141,6 +145,100 @@ impl Packed {
         }
     }
 
+    /// Puts the first values of a column at the end, as far as there is room: how many is the answer.
+    ///
+    /// Fails only for want of memory.
+    pub(crate) fn push_first(&mut self, alloc: Global, column: &Column) -> Result<usize, FrameError>
+        requires { self.old.kind ≡ column.now.kind }
+        ensures added { IfOk result (λ count. self.new ≡ record { kind = self.old.kind; values = self.old.values ++ take count column.now.values }) }
+        ensures kind { self.new.kind ≡ self.old.kind }
+        ensures memory { OnErr result (result ≡ Err FrameError.OutOfMemory) }
+    {
+        // A law: each value fits the kind, as pushing it asks.
+        column.values_fit();
+        match column.view() {
+            Some(view) => self.push_shown(alloc, &view),
+            None => self.push_each(alloc, column),
+        }
+    }
+
+    // The same of the cells of a view.
+    fn push_shown(&mut self, alloc: Global, view: &ColumnView<'_>) -> Result<usize, FrameError>
+        requires { IsTrue (all_fit self.old.kind view.now) }
+        ensures added { IfOk result (λ count. self.new ≡ record { kind = self.old.kind; values = self.old.values ++ take count view.now }) }
+        ensures kind { self.new.kind ≡ self.old.kind }
+        ensures memory { OnErr result (result ≡ Err FrameError.OutOfMemory) }
+    {
+        let count = view.len();
+        for i in 0..count {
+            let taken = self.push_at(alloc, view.value(i), view.place(i))?;
+            if !taken {
+                return Ok(i);
+            }
+        }
+        Ok(count)
+    }
+
+    // The same of a column whose values lie in several runs.
+    fn push_each(&mut self, alloc: Global, column: &Column) -> Result<usize, FrameError>
+        requires { IsTrue (all_fit self.old.kind column.now.values) }
+        ensures added { IfOk result (λ count. self.new ≡ record { kind = self.old.kind; values = self.old.values ++ take count column.now.values }) }
+        ensures kind { self.new.kind ≡ self.old.kind }
+        ensures memory { OnErr result (result ≡ Err FrameError.OutOfMemory) }
+    {
+        let count = column.len();
+        for i in 0..count {
+            let taken = self.push(alloc, column.value(i))?;
+            if !taken {
+                return Ok(i);
+            }
+        }
+        Ok(count)
+    }
+
+    // Puts an equal value at the end, as `push` does. It is looked for first where the value was found that stood last
+    // at the same place of its own run, if a place tells it.
+    fn push_at(
+        &mut self,
+        alloc: Global,
+        value: &Value,
+        at: Option<usize>,
+    ) -> Result<bool, FrameError>
+        requires { IsTrue (fits_kind self.old.kind value.now) }
+        ensures taken { IfOk result (λ taken. self.new ≡ (if taken then with_value self.old value.now else self.old)) }
+        ensures kind { self.new.kind ≡ self.old.kind }
+        ensures memory { OnErr result (result ≡ Err FrameError.OutOfMemory) }
+    {
+        match self.hints.place_of(self.few.as_slice(), value, at) {
+            Some(place) => {
+                self.places.push(place)?;
+                Ok(true)
+            }
+            None => self.push_noted(alloc, value, at),
+        }
+    }
+
+    // Puts an equal value at the end, as `push` does, and notes its place for the next one that stands there.
+    fn push_noted(
+        &mut self,
+        alloc: Global,
+        value: &Value,
+        at: Option<usize>,
+    ) -> Result<bool, FrameError>
+        requires { IsTrue (fits_kind self.old.kind value.now) }
+        ensures taken { IfOk result (λ taken. self.new ≡ (if taken then with_value self.old value.now else self.old)) }
+        ensures kind { self.new.kind ≡ self.old.kind }
+        ensures memory { OnErr result (result ≡ Err FrameError.OutOfMemory) }
+    {
+        let Some(at) = at else {
+            return self.push(alloc, value);
+        };
+        self.hints.reach(at)?;
+        let taken = self.push(alloc, value)?;
+        self.hints.note(at, self.places.as_slice());
+        Ok(taken)
+    }
+
     // Puts a value that wasn't found at the end, where there is room for it: that is the answer.
     fn push_new(&mut self, alloc: Global, value: Value) -> Result<bool, FrameError>
         requires { IsTrue (fits_kind self.old.kind value) }
@@ -204,11 +302,13 @@ impl Packed {
             few,
             places,
             guesses: _guesses,
+            hints: _hints,
         } = self;
         if few.len() == places.len() && are_in_order(places.as_slice()) {
             return Column::of_values(alloc, dtype, few);
         }
-        if places.len() < FEWEST_CELLS {
+        // Fewer cells are worth their places only where each value stands in many of them.
+        if places.len() < FEWEST_CELLS && few.len() > places.len() / CELLS_EACH {
             return Column::of_copies(alloc, dtype, few.as_slice(), places.as_slice());
         }
         Column::of_few(alloc, dtype, few, places)
@@ -257,32 +357,15 @@ pub(crate) fn pack_above(
     ensures memory { OnErr result (result ≡ Err FrameError.OutOfMemory) }
 {
     let mut packed = Packed::new(alloc, upper.dtype());
-    let upper_taken = push_all(alloc, &mut packed, upper)?;
-    if !upper_taken {
+    let upper_count = packed.push_first(alloc, upper)?;
+    if upper_count < upper.len() {
         return Ok(None);
     }
-    let lower_taken = push_all(alloc, &mut packed, lower)?;
-    if !lower_taken {
+    let lower_count = packed.push_first(alloc, lower)?;
+    if lower_count < lower.len() {
         return Ok(None);
     }
     Ok(Some(packed))
-}
-
-// Puts the values of a column at the end, as far as there is room: whether it was enough is the answer.
-fn push_all(alloc: Global, packed: &mut Packed, column: &Column) -> Result<bool, FrameError>
-    requires { packed.old.kind ≡ column.now.kind }
-    ensures added { IfOk result (λ all. IsTrue all → packed.new ≡ above packed.old column.now) }
-    ensures memory { OnErr result (result ≡ Err FrameError.OutOfMemory) }
-{
-    // A law: each value fits the kind, as `push` asks.
-    column.values_fit();
-    for i in 0..column.len() {
-        let taken = packed.push(alloc, column.value(i))?;
-        if !taken {
-            return Ok(false);
-        }
-    }
-    Ok(true)
 }
 
 /// What stands at these places of a column, with null where there is no place, packed if there is room.

@@ -66,6 +66,16 @@ impl<'a> ColumnView<'a> {
         self.len() == 0
     }
 
+    // Where the value of a cell stands in the slice, if it is told by its place.
+    pub(crate) fn place(&self, i: usize) -> Option<usize>
+        requires { i < length self.now }
+    {
+        match self.places {
+            Some(places) => Some(place_at(places, i)),
+            None => None,
+        }
+    }
+
     /// The value of a cell.
     pub fn value(&self, i: usize) -> &'a Value
         requires { i < length self.now }
@@ -83,6 +93,13 @@ fn value_at(values: &[Value], i: usize) -> &Value
     ensures { slice_get values.now i ≡ Some result.now }
 {
     &values[i]
+}
+
+fn place_at(places: &[u32], i: usize) -> usize
+    requires { i < length places.now }
+    ensures { slice_get places.now i ≡ Some result }
+{
+    places[i] as usize
 }
 
 // The value at the i-th of these places.

@@ -1,5 +1,5 @@
 use Rattle.std.proofs.Common.{inl, inr, refl, sym}
-use Rattle.ps_bundles.proofs.examples.ends_of_small_zips.Goals as goal
+use Rattle.worked_examples.proofs.lowering.ends_of_small_zips.Goals as goal
 use Rattle.ps_bundles.proofs.ZipEnds.{differ}
 
 pub returns-clause-whole : goal.returns-clause-whole

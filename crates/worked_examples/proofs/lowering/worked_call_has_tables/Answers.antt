@@ -8,8 +8,8 @@ use Rattle.ps_rules.specs.Names.{temporary}
 use Rattle.ps_rules.specs.Worked.{ab_fields, field, over_two, source, start, sum_beside_b, sum_node}
 use Rattle.ps_shares.specs.Kept.{IsOrdered}
 use Rattle.ps_shares.proofs.Members.{to_has}
-use Rattle.ps_bundles.specs.Examples.{worked_tables}
-use Rattle.ps_bundles.proofs.examples.worked_call_has_tables.Goals as goal
+use Rattle.worked_examples.specs.Lowering.{worked_tables}
+use Rattle.worked_examples.proofs.lowering.worked_call_has_tables.Goals as goal
 
 ordered : IsOrdered start.nodes
 ordered zero p i e h = let is : source ≡ p = cc in absurd (to_has [] i (subst (λ (p : PhysicalNode). Contains p.inputs i) (sym is) h))

@@ -1,6 +1,6 @@
 use Rattle.std.proofs.Common.{◌∷◌, [], take, append_assoc}
 use Rattle.ps_frame.proofs.Gathers.{take-value}
-use Rattle.ps_frame.proofs.column.push_clones.Goals as goal
+use Rattle.ps_frame.proofs.column.push_each.Goals as goal
 
 pub loop-i-preserved : goal.loop-i-preserved
 loop-i-preserved c =

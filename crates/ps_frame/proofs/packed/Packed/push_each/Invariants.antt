@@ -1,5 +1,5 @@
 use Rattle.std.proofs.Common.{◌≡◌, ◌++◌, take}
-use Rattle.ps_frame.proofs.builder.ColumnBuilder.push_values.Given as goal
+use Rattle.ps_frame.proofs.packed.Packed.push_each.Given as goal
 
 abbrev pub invariant-loop-i : goal.invariant-loop-i
 invariant-loop-i l = l.self ≡ record { kind = l.initial.self.kind; values = l.initial.self.values ++ take l.i l.column.values }

@@ -1,9 +1,9 @@
-//! Worked cases, as theorems of functions that do nothing.
+//! Worked cases of lowered expressions, as theorems of functions that do nothing.
 ghost use Rattle.std.specs.Prelude.{◌∷◌, [], false};
 ghost use Rattle.ps_frame.specs.Functions.{Functions};
 ghost use Rattle.ps_frame.specs.Zip.{zipped};
 ghost use Rattle.ps_bundles.specs.Endings.{EndAs};
-ghost use Rattle.ps_bundles.specs.Examples.{beside_none, beside_one, cast_fault, one, one_cell, wanted, worked_tables};
+ghost use Rattle.worked_examples.specs.Lowering.{beside_none, beside_one, cast_fault, one, one_cell, wanted, worked_tables};
 ghost use Rattle.ps_meaning.specs.Shape.{IsPhysicalChoice};
 ghost use Rattle.ps_meaning.specs.Steps.{exprs_of};
 ghost use Rattle.ps_rules.specs.Worked.{start, sum_beside_b};
