@@ -4,17 +4,19 @@ ghost use Rattle.keyed_slots.specs.Slots.{value_at};
 ghost use Rattle.lowering_parts.specs.Gathered.{Begins, Later};
 ghost use Rattle.physical_laws.specs.Premises.{KeepsSteps};
 ghost use Rattle.physical_plans.specs.PhysicalPlans.{IsPhysicalPlan};
+ghost use Rattle.plan_lowering.specs.Few.{AreFew};
 ghost use Rattle.ps_copies.specs.Copies.{KeepsTrees};
-ghost use Rattle.ps_frame.specs.Trees.{tree_at};
+ghost use Rattle.ps_frame.specs.Trees.{Tree, tree_at};
 ghost use Rattle.ps_frame.specs.declared.refusal.PolarsError.{PolarsError};
 ghost use Rattle.ps_meaning.specs.Sound.{HasOneReaderEach, IsSound};
-ghost use Rattle.ps_phys.specs.Shown.{ReadsWhatIsThere, shown};
+ghost use Rattle.ps_phys.specs.Shown.{ReadsWhatIsThere, nodes_of, shown};
 ghost use Rattle.ps_plan.specs.Lowering.{IsLoweringOf};
 ghost use Rattle.ps_plan.specs.Refusals.{IsValid};
 ghost use Rattle.ps_survey.specs.Flaws.{plan_of};
 ghost use Rattle.ps_validate.specs.Errors.{IsPlanError};
 ghost use Rattle.valid_plans.specs.Valid.{IsValidWith, plan_with};
 ghost use Rattle.within_arenas.specs.Lowering.{IsLoweringOrLarge};
+ghost use Rattle.pu_base.specs.declared.arena.Node.{Node as ANode};
 
 use keyed_slots::SlotMap;
 use physical_laws::laws::{physical_plans_are_lowerings, physical_plans_are_sound};
@@ -32,15 +34,16 @@ use valid_plans::valid::Valid;
 use valid_within::laws::valid_plans_stay_within;
 
 /// The physical nodes of a valid plan, and the key of its root: the nodes that the root reaches are those that the rules
-/// of lowering give, and they are sound; each of their ports has exactly one reader. Of the functions it asks whether one
-/// streams, and calls none.
+/// of lowering give, and they are sound; each of their ports has exactly one reader. There are fewer than 2^31 nodes, and
+/// they have fewer than 2^31 inputs in all. Of the functions it asks whether one streams, and calls none.
 ///
 /// They mean what the plan means: each table of the last one, which is the root, is within one that the plan's root means
 /// under some choice; a cause that a node shows and that was made at its origin breaks the plan's node of that number, unless
 /// some table at or under that one is large; and where a node is large the plan's node is. Where each call that the plan makes
 /// keeps its step, no such case is needed.
 ///
-/// What stood in the arena stands after every answer. Fails only for want of memory; expressions may then have been added.
+/// What stood in the arena stands after every answer. Fails only for want of memory, also where there would be more nodes
+/// or inputs; expressions may then have been added.
 pub fn build_physical_plan<F: Functions>(
     alloc: Global,
     valid: &Valid,
@@ -55,6 +58,7 @@ pub fn build_physical_plan<F: Functions>(
     ensures lowering { KeepsSteps (F.told functions.now) (plan_with valid.now expr_arena.old.items) → IfOk result (λ r. Later expr_arena.new.items (λ f. IsLoweringOf (F.told functions.now) (plan_with valid.now expr_arena.old.items) (shown f r.0.slots r.1.0) (length (shown f r.0.slots r.1.0) - 1))) }
     ensures root { IfOk result (λ r. IsSome (value_at r.0.slots r.1.0)) }
     ensures whole { IfOk result (λ r. ReadsWhatIsThere r.0.slots) }
+    ensures few { (f : ANode → Tree) → IfOk result (λ r. AreFew (nodes_of f r.0.slots)) }
     ensures entries { Begins expr_arena.old.items expr_arena.new.items }
     ensures kept { KeepsTrees expr_arena.old.items expr_arena.new.items }
     ensures memory { OnErr result (result ≡ Err PolarsError.OutOfMemory) }
@@ -71,7 +75,7 @@ pub fn build_physical_plan<F: Functions>(
 /// called; each is asked whether it streams.
 ///
 /// Takes the root, the nodes and the expressions of a plan; the expressions stay as they are, and some may be added. Fails
-/// by a refusal of the plan if it isn't valid, else only for want of memory.
+/// by a refusal of the plan if it isn't valid, else only for want of memory, also where there would be more nodes or inputs.
 pub fn plan_query<F: Functions>(
     alloc: Global,
     node: Node,
@@ -87,6 +91,7 @@ pub fn plan_query<F: Functions>(
     ensures lowering { KeepsSteps (F.told functions.now) (plan_of node ir_arena.items expr_arena.old.items) → IfOk result (λ r. IsLoweringOf (F.told functions.now) (plan_of node ir_arena.items expr_arena.old.items) (shown (tree_at expr_arena.new.items) r.0.slots r.1.0) (length (shown (tree_at expr_arena.new.items) r.0.slots r.1.0) - 1)) }
     ensures root { IfOk result (λ r. IsSome (value_at r.0.slots r.1.0)) }
     ensures whole { IfOk result (λ r. ReadsWhatIsThere r.0.slots) }
+    ensures few { (f : ANode → Tree) → IfOk result (λ r. AreFew (nodes_of f r.0.slots)) }
     ensures refused { IfErr result (IsPlanError (F.told functions.now) (plan_of node ir_arena.items expr_arena.old.items)) }
     ensures entries { Begins expr_arena.old.items expr_arena.new.items }
     ensures kept { KeepsTrees expr_arena.old.items expr_arena.new.items }

@@ -1,3 +1,4 @@
 pub mod Lowered
 pub mod Examples
 pub mod There
+pub mod Few

@@ -9,10 +9,12 @@ ghost use Rattle.ps_fresh.specs.InPlans.{IsNameUnder};
 ghost use Rattle.ps_fresh.specs.Known.{Remembers};
 ghost use Rattle.ps_multiplexers.specs.Multiplexers.{with_multiplexers};
 ghost use Rattle.ps_phys.specs.Shown.{ReadsWhatIsThere, inputs_of, nodes_of, shown};
+ghost use Rattle.ps_phys.specs.Underway.{slot_inputs};
 ghost use Rattle.ps_rules.specs.Names.{Knows};
 ghost use Rattle.valid_plans.specs.Valid.{IsValidWith, plan_with};
 ghost use Rattle.physical_plans.specs.PhysicalPlans.{IsPhysicalPlan};
 ghost use Rattle.lowering_parts.specs.Gathered.{Begins, Later};
+ghost use Rattle.plan_lowering.specs.Few.{AreFew};
 ghost use Rattle.plan_lowering.specs.There.{AreFirstPorts, IsReadOnce, ReadsFirst};
 ghost use Rattle.pu_base.specs.declared.arena.Node.{Node as ANode};
 
@@ -33,10 +35,11 @@ use std::collections::BTreeMap;
 use valid_plans::valid::Valid;
 
 /// The physical nodes of a valid plan, and the key of its root: the nodes that the root reaches are those that the rules
-/// of lowering give, and no stream has two readers among them. Of the functions it asks whether one streams, and calls
-/// none.
+/// of lowering give, and no stream has two readers among them. There are fewer than 2^31 nodes, and they have fewer than
+/// 2^31 inputs in all. Of the functions it asks whether one streams, and calls none.
 ///
-/// What stood in the arena stands after every answer. Fails only for want of memory; expressions may then have been added.
+/// What stood in the arena stands after every answer. Fails only for want of memory, also where there would be more nodes
+/// or inputs; expressions may then have been added.
 pub fn build_physical_plan<F: Functions>(
     alloc: Global,
     valid: &Valid,
@@ -48,6 +51,7 @@ pub fn build_physical_plan<F: Functions>(
     ensures root { IfOk result (λ r. IsSome (value_at r.0.slots r.1.0)) }
     ensures whole { IfOk result (λ r. ReadsWhatIsThere r.0.slots) }
     ensures once { (f : ANode → Tree) → IfOk result (λ r. IsReadOnce r.1.0 (nodes_of f r.0.slots)) }
+    ensures few { (f : ANode → Tree) → IfOk result (λ r. AreFew (nodes_of f r.0.slots)) }
     ensures entries { Begins expr_arena.old.items expr_arena.new.items }
     ensures kept { KeepsTrees expr_arena.old.items expr_arena.new.items }
     ensures memory { OnErr result (result ≡ Err PolarsError.OutOfMemory) }
@@ -93,6 +97,9 @@ fn begun(alloc: Global, valid: &Valid, exprs: &Arena<AExpr>) -> PolarsResult<Low
 /// The most nodes that get multiplexers: with as many more their keys have 32 bits.
 const MOST_NODES: usize = (1 << 31) - 2;
 
+/// The most nodes of a physical plan, multiplexers too, and the most inputs of all of them together.
+const MOST_IN_ALL: usize = (1 << 31) - 1;
+
 // Puts multiplexers behind the nodes that several nodes read.
 fn share(
     alloc: Global,
@@ -103,15 +110,19 @@ fn share(
     ensures root { OnOk result (IsSome (value_at phys_sm.new.slots root.0)) }
     ensures whole { OnOk result (ReadsWhatIsThere phys_sm.new.slots) }
     ensures once { (f : ANode → Tree) → OnOk result (IsReadOnce root.0 (nodes_of f phys_sm.new.slots)) }
+    ensures few { (f : ANode → Tree) → OnOk result (AreFew (nodes_of f phys_sm.new.slots)) }
     ensures memory { OnErr result (result ≡ Err PolarsError.OutOfMemory) }
 {
-    let fit = can_be_shared(root, phys_sm);
-    if fit {
-        // A law, from which the clause on readers comes; it does nothing.
-        no_stream_is_taken_twice();
-        return insert_multiplexers(alloc, root, phys_sm);
+    if !can_be_shared(root, phys_sm) {
+        return Err(PolarsError::OutOfMemory);
     }
-    Err(PolarsError::OutOfMemory)
+    // A law, from which the clause on readers comes; it does nothing.
+    no_stream_is_taken_twice();
+    insert_multiplexers(alloc, root, phys_sm)?;
+    if !are_few(phys_sm) {
+        return Err(PolarsError::OutOfMemory);
+    }
+    Ok(())
 }
 
 // Whether nodes may get multiplexers. The rules let each node read the first ports of nodes before it, and a valid plan
@@ -165,6 +176,46 @@ fn is_whole(phys_sm: &SlotMap<PhysNodeKey, PhysNode>) -> bool
         if !is_fit(phys_sm, number) {
             return false;
         }
+    }
+    true
+}
+
+// How many streams a node reads.
+fn inputs_read(kind: &PhysNodeKind) -> usize
+    ensures { result ≡ length (inputs_of kind.now) }
+{
+    let mut place = 0usize;
+    while kind.input(place).is_some() {
+        place += 1;
+    }
+    place
+}
+
+// The same of the node of a number: none where there is no node.
+fn inputs_at(phys_sm: &SlotMap<PhysNodeKey, PhysNode>, number: u32) -> usize
+    ensures { result ≡ length (slot_inputs phys_sm.now.slots number) }
+{
+    match phys_sm.get(PhysNodeKey::from_number(number)) {
+        Some(node) => inputs_read(&node.kind),
+        None => 0,
+    }
+}
+
+// Whether there are no more nodes, and inputs of all of them together, than a physical plan may have. A valid plan has far
+// fewer. That isn't proved of it, so it is looked at, once for each input.
+fn are_few(phys_sm: &SlotMap<PhysNodeKey, PhysNode>) -> bool
+    ensures { IsTrue result → (f : ANode → Tree) → AreFew (nodes_of f phys_sm.now.slots) }
+{
+    let nodes = phys_sm.inserts();
+    if nodes > MOST_IN_ALL {
+        return false;
+    }
+    let mut room = MOST_IN_ALL;
+    for number in 0..nodes {
+        let Some(rest) = room.checked_sub(inputs_at(phys_sm, number as u32)) else {
+            return false;
+        };
+        room = rest;
     }
     true
 }

@@ -3,6 +3,7 @@ ghost use Rattle.std.specs.Prelude.{◌≡◌, ◌<◌, IfErr, IfOk, IsSome, OnO
 ghost use Rattle.keyed_slots.specs.Slots.{value_at};
 ghost use Rattle.lowering_parts.specs.Gathered.{Begins};
 ghost use Rattle.physical_plans.specs.PhysicalPlans.{IsPhysicalPlan};
+ghost use Rattle.plan_lowering.specs.Few.{AreFew};
 ghost use Rattle.plan_lowering.specs.There.{IsReadOnce};
 ghost use Rattle.ps_copies.specs.Copies.{KeepsTrees};
 ghost use Rattle.ps_frame.specs.Trees.{Tree, tree_at};
@@ -28,11 +29,11 @@ use std::sync::ledger::{Blank, Ledger};
 use valid_plans::valid::Valid;
 
 /// The physical nodes of a plan and the key of their root, if the plan is valid: the nodes that the root reaches are those
-/// that the rules of lowering give, and no stream has two readers among them. No function is called; each is asked
-/// whether it streams.
+/// that the rules of lowering give, and no stream has two readers among them. There are fewer than 2^31 nodes, and they
+/// have fewer than 2^31 inputs in all. No function is called; each is asked whether it streams.
 ///
 /// Takes the root, the nodes and the expressions of a plan; the expressions stay as they are, and some may be added. Fails
-/// by a refusal of the plan if it isn't valid, else only for want of memory.
+/// by a refusal of the plan if it isn't valid, else only for want of memory, also where there would be more nodes or inputs.
 pub fn plan_query<F: Functions>(
     alloc: Global,
     node: Node,
@@ -45,6 +46,7 @@ pub fn plan_query<F: Functions>(
     ensures root { IfOk result (λ r. IsSome (value_at r.0.slots r.1.0)) }
     ensures whole { IfOk result (λ r. ReadsWhatIsThere r.0.slots) }
     ensures once { (f : ANode → Tree) → IfOk result (λ r. IsReadOnce r.1.0 (nodes_of f r.0.slots)) }
+    ensures few { (f : ANode → Tree) → IfOk result (λ r. AreFew (nodes_of f r.0.slots)) }
     ensures refused { IfErr result (IsPlanError (F.told functions.now) (plan_of node ir_arena.items expr_arena.old.items)) }
     ensures entries { Begins expr_arena.old.items expr_arena.new.items }
     ensures kept { KeepsTrees expr_arena.old.items expr_arena.new.items }
