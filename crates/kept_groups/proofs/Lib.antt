@@ -1,0 +1,3 @@
+mod Ready
+mod Kept
+mod Counts

@@ -1,0 +1,4 @@
+mod Apart
+mod Calls
+pub mod Steps
+pub mod Plans
