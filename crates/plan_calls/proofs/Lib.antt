@@ -1,0 +1,7 @@
+pub mod Begun
+pub mod Come
+pub mod Further
+pub mod Induction
+pub mod Keeps
+pub mod Parts
+pub mod Stood
