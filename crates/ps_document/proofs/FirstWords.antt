@@ -1,6 +1,6 @@
 -- The JSON of an expression and of a node begins with a word.
-use Rattle.std.proofs.Common.{◌≡◌, ◌≢◌, ◌==◌, ℕ, Bool, false, List, [], ◌∷◌, length, drop, refl, ◌∙◌}
-use Rattle.std.specs.Prelude.{map, codes}
+use Rattle.std.proofs.Common.{◌≡◌, ◌≢◌, ◌==◌, ℕ, false, List, [], ◌∷◌, length, drop, refl, ◌∙◌}
+use Rattle.std.specs.Prelude.{map}
 use Rattle.serde_json.specs.Data.{Data}
 use Rattle.ps_frame.specs.Tables.{Frame}
 use Rattle.ps_frame.specs.declared.expr.AExpr.{AExpr}

@@ -1,5 +1,6 @@
 -- The members of a document, found one after another.
 use Rattle.std.proofs.Common.{◌≡◌, List, Option, Some, None, refl, ap, ◌∙◌, subst}
+use Rattle.std.specs.Option.{option_zip}
 use Rattle.std.specs.Prelude.{Vec, codes, option_map}
 use Rattle.std.specs.List.{AllZip}
 use Rattle.std.specs.declared.alloc.Global.{Global}
@@ -7,7 +8,9 @@ use Rattle.serde_json.specs.Data.{Data, Members, object, put}
 use Rattle.serde_json.specs.View.{view}
 use Rattle.serde_json.specs.declared.value.Value.{Value}
 use Rattle.ps_frame.specs.Tables.{Frame}
+use Rattle.pu_base.specs.declared.arena.Node.{Node}
 use Rattle.ps_document.specs.Found.{AreTables, IsFound, members_found}
+use Rattle.ps_document.specs.Expressions.{entry_number}
 use Rattle.ps_document.specs.Json.{four_members, list}
 use Rattle.ps_document.specs.Tables.{IsTable}
 use Rattle.ps_document.specs.declared.found.Found.{Found}
@@ -58,21 +61,21 @@ pub exprs-found : (old : Found) (value : Value) (ms : Members) → old.exprs ≡
 exprs-found old value ms e is = record {
   tables = is.tables;
   are_tables = is.are_tables;
-  members = ap (put (codes "exprs") (view value)) (is.members ∙ ap (λ (o : Option Value). members_found (option_map view o) (option_map view old.nodes) (option_map view old.root) is.tables) e) ∙ put-exprs (view value) (option_map view old.nodes) (option_map view old.root) is.tables;
+  members = ap (put (codes "exprs") (view value)) (is.members ∙ ap (λ (o : Option Value). members_found (option_map view o) (option_map view old.nodes) (option_map entry_number old.root) is.tables) e) ∙ put-exprs (view value) (option_map view old.nodes) (option_map entry_number old.root) is.tables;
 }
 
 pub nodes-found : (old : Found) (value : Value) (ms : Members) → old.nodes ≡ None → IsFound old ms → IsFound (record old { nodes = Some value }) (put (codes "nodes") (view value) ms)
 nodes-found old value ms e is = record {
   tables = is.tables;
   are_tables = is.are_tables;
-  members = ap (put (codes "nodes") (view value)) (is.members ∙ ap (λ (o : Option Value). members_found (option_map view old.exprs) (option_map view o) (option_map view old.root) is.tables) e) ∙ put-nodes (view value) (option_map view old.exprs) (option_map view old.root) is.tables;
+  members = ap (put (codes "nodes") (view value)) (is.members ∙ ap (λ (o : Option Value). members_found (option_map view old.exprs) (option_map view o) (option_map entry_number old.root) is.tables) e) ∙ put-nodes (view value) (option_map view old.exprs) (option_map entry_number old.root) is.tables;
 }
 
-pub root-found : (old : Found) (value : Value) (ms : Members) → old.root ≡ None → IsFound old ms → IsFound (record old { root = Some value }) (put (codes "root") (view value) ms)
-root-found old value ms e is = record {
+pub root-found : (old : Found) (root : Node) (ms : Members) → old.root ≡ None → IsFound old ms → IsFound (record old { root = Some root }) (put (codes "root") (entry_number root) ms)
+root-found old root ms e is = record {
   tables = is.tables;
   are_tables = is.are_tables;
-  members = ap (put (codes "root") (view value)) (is.members ∙ ap (λ (o : Option Value). members_found (option_map view old.exprs) (option_map view old.nodes) (option_map view o) is.tables) e) ∙ put-root (view value) (option_map view old.exprs) (option_map view old.nodes) is.tables;
+  members = ap (put (codes "root") (entry_number root)) (is.members ∙ ap (λ (o : Option Node). members_found (option_map view old.exprs) (option_map view old.nodes) (option_map entry_number o) is.tables) e) ∙ put-root (entry_number root) (option_map view old.exprs) (option_map view old.nodes) is.tables;
 }
 
 no_tables : (o : Option Data) → AreTables None o → o ≡ None
@@ -86,25 +89,38 @@ tables-found old tables ds ms e zip is =
     record {
       tables = Some (list ds);
       are_tables = (ds, refl, zip);
-      members = ap (put (codes "tables") (list ds)) (is.members ∙ ap (members_found (option_map view old.exprs) (option_map view old.nodes) (option_map view old.root)) none) ∙ put-tables (list ds) (option_map view old.exprs) (option_map view old.nodes) (option_map view old.root);
+      members = ap (put (codes "tables") (list ds)) (is.members ∙ ap (members_found (option_map view old.exprs) (option_map view old.nodes) (option_map entry_number old.root)) none) ∙ put-tables (list ds) (option_map view old.exprs) (option_map view old.nodes) (option_map entry_number old.root);
     }
 
 -- ---- all of them
+
+abbrev first_of : {A B : Type 0} → A → Option (A × B) → A
+first_of a None = a
+first_of a (Some p) = p.0
+
+abbrev second_of : {A B : Type 0} → B → Option (A × B) → B
+second_of b None = b
+second_of b (Some p) = p.1
+
+pub zip-some : {A B : Type 0} (o : Option A) (p : Option B) (x : A) (y : B) → option_zip o p ≡ Some (x, y) → (o ≡ Some x) × (p ≡ Some y)
+zip-some None p x y e = absurd (cc)
+zip-some (Some a) None x y e = absurd (cc)
+zip-some (Some a) (Some b) x y e = (ap Some (ap (first_of x) e), ap Some (ap (second_of y) e))
 
 some_tables : (tables : Vec Frame Global) (o : Option Data) → AreTables (Some tables) o → (ds : List Data) × (o ≡ Some (list ds)) × AllZip IsTable tables.items ds
 some_tables tables None h = absurd h
 some_tables tables (Some d) h = (h.0, ap Some h.1, h.2)
 
-pub all-found : (f : Found) (tables : Vec Frame Global) (exprs nodes root : Value) (ms : Members) → f.tables ≡ Some tables → f.exprs ≡ Some exprs → f.nodes ≡ Some nodes → f.root ≡ Some root → IsFound f ms
-    → (ds : List Data) × AllZip IsTable tables.items ds × (object ms ≡ four_members (list ds) (view exprs) (view nodes) (view root))
+pub all-found : (f : Found) (tables : Vec Frame Global) (exprs nodes : Value) (root : Node) (ms : Members) → f.tables ≡ Some tables → f.exprs ≡ Some exprs → f.nodes ≡ Some nodes → f.root ≡ Some root → IsFound f ms
+    → (ds : List Data) × AllZip IsTable tables.items ds × (object ms ≡ four_members (list ds) (view exprs) (view nodes) (entry_number root))
 all-found f tables exprs nodes root ms t e n r is =
     let some = some_tables tables is.tables (subst (λ (o : Option (Vec Frame Global)). AreTables o is.tables) t is.are_tables) in (
       some.0,
       some.2,
       ap object (
-          is.members ∙ ap (λ (o : Option Value). members_found (option_map view o) (option_map view f.nodes) (option_map view f.root) is.tables) e
-          ∙ ap (λ (o : Option Value). members_found (Some (view exprs)) (option_map view o) (option_map view f.root) is.tables) n
-          ∙ ap (λ (o : Option Value). members_found (Some (view exprs)) (Some (view nodes)) (option_map view o) is.tables) r
-          ∙ ap (members_found (Some (view exprs)) (Some (view nodes)) (Some (view root))) some.1
+          is.members ∙ ap (λ (o : Option Value). members_found (option_map view o) (option_map view f.nodes) (option_map entry_number f.root) is.tables) e
+          ∙ ap (λ (o : Option Value). members_found (Some (view exprs)) (option_map view o) (option_map entry_number f.root) is.tables) n
+          ∙ ap (λ (o : Option Node). members_found (Some (view exprs)) (Some (view nodes)) (option_map entry_number o) is.tables) r
+          ∙ ap (members_found (Some (view exprs)) (Some (view nodes)) (Some (entry_number root))) some.1
           ),
     )

@@ -5,6 +5,7 @@ use Rattle.std.specs.declared.alloc.Global.{Global}
 use Rattle.serde_json.specs.Data.{Data, Members, member, no_members}
 use Rattle.serde_json.specs.View.{view}
 use Rattle.ps_frame.specs.Tables.{Frame}
+use Rattle.ps_document.specs.Expressions.{entry_number}
 use Rattle.ps_document.specs.Json.{list}
 use Rattle.ps_document.specs.Tables.{IsTable}
 use Rattle.ps_document.specs.declared.found.Found.{Found}
@@ -30,4 +31,4 @@ members_found exprs nodes root tables =
 pub record IsFound (f : Found) (ms : Members) : Type 0 where
   pub tables : Option Data
   pub are_tables : AreTables f.tables tables
-  pub members : ms ≡ members_found (option_map view f.exprs) (option_map view f.nodes) (option_map view f.root) tables
+  pub members : ms ≡ members_found (option_map view f.exprs) (option_map view f.nodes) (option_map entry_number f.root) tables

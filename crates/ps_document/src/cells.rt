@@ -195,6 +195,8 @@ fn read_cells(
     'cells: while !reader.take_end_array() {
         let told = push_cell(alloc, dtype, reader, &mut builder)?;
         if !told {
+            // By a call: else it is taken apart right here, and the proof is the longer.
+            drop(builder);
             return Ok(None);
         }
     }

@@ -107,15 +107,18 @@ fn plan_of(alloc: Global, members: Members) -> Result<Option<Document>, AllocErr
     ensures some { IfOk result (λ o. IfSome o (λ d. (tables : List Frame) × IsPlanJson tables (record { nodes = d.nodes.items; exprs = d.exprs.items; root = d.root }) (four_members (view members.tables) (view members.exprs) (view members.nodes) (view members.root)))) }
     ensures none { IfOk result (λ o. IfNone o ((tables : List Frame) (plan : Plan) → IsPlanJson tables plan (four_members (view members.tables) (view members.exprs) (view members.nodes) (view members.root)) → ⊥)) }
 {
+    let Some(root) = entry_of(&members.root) else {
+        // By a call: else they are taken apart right here, and the proof is the longer.
+        drop(members);
+        return Ok(None);
+    };
     let Members {
         tables,
         exprs,
         nodes,
-        root,
+        root: number,
     } = members;
-    let Some(root) = entry_of(&root) else {
-        return Ok(None);
-    };
+    drop(number);
     let Some(tables) = take_list::<(), DataFrame>(alloc, &(), tables)? else {
         return Ok(None);
     };

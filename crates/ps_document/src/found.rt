@@ -1,5 +1,6 @@
 // The members of a document, read off its tokens with no tree of its tables.
-ghost use Rattle.std.specs.Prelude.{◌≡◌, List, Some, IfOk, IfSome, codes};
+ghost use Rattle.std.specs.Prelude.{◌≡◌, List, None, Some, IfOk, IfSome, codes};
+ghost use Rattle.std.specs.Bool.{OnFalse, OnTrue};
 ghost use Rattle.std.specs.List.{AllZip};
 ghost use Rattle.serde_json.specs.Data.{Data, Members, no_members, object, put};
 ghost use Rattle.serde_json.specs.Read.{read};
@@ -17,6 +18,7 @@ use json::{Reader, Scratch, Token};
 use ps_frame::frame::DataFrame;
 use ps_reading::list::read_list;
 use ps_reading::value::read_value;
+use pu_base::Node;
 use serde_json::Value;
 use std::alloc::{AllocError, Global};
 
@@ -26,7 +28,7 @@ struct Found {
     tables: Option<Vec<DataFrame>>,
     exprs: Option<Value>,
     nodes: Option<Value>,
-    root: Option<Value>,
+    root: Option<Node>,
 }
 
 /// How deep arrays may nest in a member.
@@ -41,30 +43,29 @@ pub fn read_off_tokens(alloc: Global, bytes: &[u8]) -> Result<Option<Document>, 
     let Ok(text) = simdutf8::basic::from_utf8(bytes) else {
         return Ok(None);
     };
-    let Some(found) = found_in(alloc, text)? else {
-        return Ok(None);
+    let mut found = Found {
+        tables: None,
+        exprs: None,
+        nodes: None,
+        root: None,
     };
+    let told = find_members(alloc, text, &mut found)?;
+    if !told {
+        // By a call: else it is taken apart right here, and the proof is the longer.
+        drop(found);
+        return Ok(None);
+    }
     let Found {
         tables,
         exprs,
         nodes,
         root,
     } = found;
-    let Some(tables) = tables else {
+    let Some((values, others)) = exprs.zip(nodes).zip(tables.zip(root)) else {
         return Ok(None);
     };
-    let Some(exprs) = exprs else {
-        return Ok(None);
-    };
-    let Some(nodes) = nodes else {
-        return Ok(None);
-    };
-    let Some(root) = root else {
-        return Ok(None);
-    };
-    let Some(root) = entry_of(&root) else {
-        return Ok(None);
-    };
+    let (exprs, nodes) = values;
+    let (tables, root) = others;
     // By `let`-`else`, so that the proof cites the value by its name.
     let Some(document) = plan_over(alloc, tables, exprs, nodes, root)? else {
         return Ok(None);
@@ -72,174 +73,114 @@ pub fn read_off_tokens(alloc: Global, bytes: &[u8]) -> Result<Option<Document>, 
     Ok(Some(document))
 }
 
-/// The members of the object that a text is.
+/// Puts the members of the object that a text is to those that were found, and whether they are told.
 ///
 /// Fails only for want of memory.
-fn found_in(alloc: Global, text: &str) -> Result<Option<Found>, AllocError>
-    ensures { IfOk result (λ o. IfSome o (λ f. (ms : Members) × IsFound f ms × (read text.now ≡ Some (object ms)))) }
+fn find_members(alloc: Global, text: &str, found: &mut Found) -> Result<bool, AllocError>
+    ensures { IfOk result (λ told. OnTrue told (IsFound found.old no_members → (ms : Members) × IsFound found.new ms × (read text.now ≡ Some (object ms)))) }
 {
     let mut scratch = Scratch::new(alloc);
     let mut reader = Reader::new(text, &mut scratch)?;
     let Some(Token::BeginObject) = reader.next() else {
-        return Ok(None);
+        return Ok(false);
     };
-    let Some(found) = read_members(alloc, &mut reader)? else {
-        return Ok(None);
-    };
-    if reader.next().is_some() {
-        return Ok(None);
+    let told = read_members(alloc, &mut reader, found)?;
+    if !told {
+        return Ok(false);
     }
-    Ok(Some(found))
+    if reader.next().is_some() {
+        return Ok(false);
+    }
+    Ok(true)
 }
 
-/// The members up to the brace that closes their object.
+/// Puts the members up to the brace that closes their object to those that were found, and whether
+/// they are told.
 ///
 /// Fails only for want of memory.
-fn read_members(alloc: Global, reader: &mut Reader<'_>) -> Result<Option<Found>, AllocError>
-    ensures { IfOk result (λ o. IfSome o (λ f. (ms : Members) × IsFound f ms × ReadsMembers 126 reader.old no_members ms reader.new)) }
+fn read_members(
+    alloc: Global,
+    reader: &mut Reader<'_>,
+    found: &mut Found,
+) -> Result<bool, AllocError>
+    ensures { IfOk result (λ told. OnTrue told ((before : Members) → IsFound found.old before → (ms : Members) × IsFound found.new ms × ReadsMembers 126 reader.old before ms reader.new)) }
 {
-    let mut found = Found {
-        tables: None,
-        exprs: None,
-        nodes: None,
-        root: None,
-    };
     'members: loop {
         let Ok(key) = reader.next_key() else {
-            return Ok(None);
+            return Ok(false);
         };
         let Some(name) = key else {
-            return Ok(Some(found));
+            return Ok(true);
         };
-        let Some(more) = read_member(alloc, reader, name, found)? else {
-            return Ok(None);
-        };
-        found = more;
+        let told = read_member(alloc, reader, name, found)?;
+        if !told {
+            return Ok(false);
+        }
     }
 }
 
-/// What was found, with the value of one more member.
+/// Puts the value of one more member to what was found, and whether it is told.
 ///
 /// Fails only for want of memory.
 fn read_member(
     alloc: Global,
     reader: &mut Reader<'_>,
     name: &str,
-    found: Found,
-) -> Result<Option<Found>, AllocError>
-    ensures { IfOk result (λ o. IfSome o (λ more. (ms : Members) → IsFound found ms → (d : Data) × Reads 126 reader.old d reader.new × IsFound more (put name.now d ms))) }
+    found: &mut Found,
+) -> Result<bool, AllocError>
+    ensures { IfOk result (λ told. OnTrue told ((d : Data) × Reads 126 reader.old d reader.new × ((ms : Members) → IsFound found.old ms → IsFound found.new (put name.now d ms)))) }
 {
     if name == "tables" {
         let Some(tables) = read_list::<ByToken, DataFrame>(alloc, &ByToken, reader)? else {
-            return Ok(None);
+            return Ok(false);
         };
-        let Some(more) = with_tables(found, tables) else {
-            return Ok(None);
-        };
-        return Ok(Some(more));
+        return Ok(found.put_tables(tables));
     }
     let Some(value) = read_value(alloc, reader, MEMBER_DEPTH)? else {
-        return Ok(None);
+        return Ok(false);
     };
-    // By `let`-`else`, so that the proof cites the value by its name.
-    let Some(more) = with_value(found, name, value) else {
-        return Ok(None);
-    };
-    Ok(Some(more))
+    Ok(found.put_value(name, value))
 }
 
-/// What was found, and the tables, where there were none.
-fn with_tables(found: Found, tables: Vec<DataFrame>) -> Option<Found>
-    ensures { IfSome result (λ more. (ds : List Data) → AllZip IsTable tables.items ds → (ms : Members) → IsFound found ms → IsFound more (put (codes "tables") (list ds) ms)) }
-{
-    let Found {
-        tables: None,
-        exprs,
-        nodes,
-        root,
-    } = found
-    else {
-        return None;
-    };
-    Some(Found {
-        tables: Some(tables),
-        exprs,
-        nodes,
-        root,
-    })
-}
+impl Found {
+    /// Puts the tables to what was found, where there were none.
+    fn put_tables(&mut self, tables: Vec<DataFrame>) -> bool
+        ensures { OnTrue result ((ds : List Data) → AllZip IsTable tables.items ds → (ms : Members) → IsFound self.old ms → IsFound self.new (put (codes "tables") (list ds) ms)) }
+    {
+        fill(&mut self.tables, tables)
+    }
 
-/// What was found, and the value of a member that isn't the tables, where there was none.
-fn with_value(found: Found, name: &str, value: Value) -> Option<Found>
-    ensures { IfSome result (λ more. (ms : Members) → IsFound found ms → IsFound more (put name.now (view value) ms)) }
-{
-    match name {
-        "exprs" => with_exprs(found, value),
-        "nodes" => with_nodes(found, value),
-        "root" => with_root(found, value),
-        _ => None,
+    /// Puts the value of a member that isn't the tables to what was found, where there was none.
+    fn put_value(&mut self, name: &str, value: Value) -> bool
+        ensures { OnTrue result ((ms : Members) → IsFound self.old ms → IsFound self.new (put name.now (view value) ms)) }
+    {
+        match name {
+            "exprs" => fill(&mut self.exprs, value),
+            "nodes" => fill(&mut self.nodes, value),
+            "root" => self.put_root(&value),
+            _ => false,
+        }
+    }
+
+    /// Puts the root to what was found, where it is a number and there was none.
+    fn put_root(&mut self, value: &Value) -> bool
+        ensures { OnTrue result ((ms : Members) → IsFound self.old ms → IsFound self.new (put (codes "root") (view value.now) ms)) }
+    {
+        match entry_of(value) {
+            Some(root) => fill(&mut self.root, root),
+            None => false,
+        }
     }
 }
 
-/// What was found, and the expressions, where there were none.
-fn with_exprs(found: Found, value: Value) -> Option<Found>
-    ensures { IfSome result (λ more. (ms : Members) → IsFound found ms → IsFound more (put (codes "exprs") (view value) ms)) }
+/// Puts a value where none stands yet, and whether this is so.
+fn fill<T: Drop>(place: &mut Option<T>, value: T) -> bool
+    ensures filled { OnTrue result ((place.old ≡ None) × (place.new ≡ Some value)) }
+    ensures kept { OnFalse result (place.new ≡ place.old) }
 {
-    let Found {
-        tables,
-        exprs: None,
-        nodes,
-        root,
-    } = found
-    else {
-        return None;
-    };
-    Some(Found {
-        tables,
-        exprs: Some(value),
-        nodes,
-        root,
-    })
-}
-
-/// What was found, and the nodes, where there were none.
-fn with_nodes(found: Found, value: Value) -> Option<Found>
-    ensures { IfSome result (λ more. (ms : Members) → IsFound found ms → IsFound more (put (codes "nodes") (view value) ms)) }
-{
-    let Found {
-        tables,
-        exprs,
-        nodes: None,
-        root,
-    } = found
-    else {
-        return None;
-    };
-    Some(Found {
-        tables,
-        exprs,
-        nodes: Some(value),
-        root,
-    })
-}
-
-/// What was found, and the number of the root, where there was none.
-fn with_root(found: Found, value: Value) -> Option<Found>
-    ensures { IfSome result (λ more. (ms : Members) → IsFound found ms → IsFound more (put (codes "root") (view value) ms)) }
-{
-    let Found {
-        tables,
-        exprs,
-        nodes,
-        root: None,
-    } = found
-    else {
-        return None;
-    };
-    Some(Found {
-        tables,
-        exprs,
-        nodes,
-        root: Some(value),
-    })
+    if place.is_some() {
+        return false;
+    }
+    *place = Some(value);
+    true
 }

@@ -172,8 +172,8 @@ fn apart(
     ensures distinct { IfOk result (λ o. IfSome o (λ t. IsTrue (has_distinct_names (fields_of columns.items)))) }
     ensures none { IfOk result (λ o. IfNone o (IsFalse (has_distinct_names (fields_of columns.items)))) }
 {
-    let mut schema = Schema::new(alloc);
     let mut list = Vec::with_capacity(alloc, columns.len())?;
+    let mut schema = Schema::new(alloc);
     for item in columns {
         let NamedColumn { name, column } = item;
         if !push_field(alloc, &mut schema, name, column.dtype())? {

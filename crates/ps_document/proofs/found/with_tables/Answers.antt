@@ -1,8 +1,0 @@
-use Rattle.std.proofs.Common.{◌≡◌, None}
-use Rattle.ps_document.proofs.MembersFound.{tables-found}
-use Rattle.ps_document.proofs.found.with_tables.Goals as goal
-
-pub returns : goal.returns
-returns c = λ ds zip ms is.
-    let none : c.args.found.tables ≡ None = cc in
-    tables-found c.args.found c.args.tables ds ms none zip is
