@@ -17,7 +17,7 @@ replay_options : (F : Functions) (w v : World) (rs : List Record) → Replays F 
 replay_options F w v [] e = ap (λ (x : World). x.options) e
 replay_options F w v (r ∷ rs) h = replay_options F h.0 v rs h.2 ∙ step_options F w h.0 r h.1
 
-replay_then : (F : Functions) (w u v : World) (rs : List Record) (r : Record) → Replays F w rs u → Steps F u r v → Replays F w (rs ++ r ∷ []) v
+pub replay_then : (F : Functions) (w u v : World) (rs : List Record) (r : Record) → Replays F w rs u → Steps F u r v → Replays F w (rs ++ r ∷ []) v
 replay_then F w u v [] r e s = (v, subst (λ x. Steps F x r v) e s, refl)
 replay_then F w u v (q ∷ rs) r h s = (h.0, h.1, replay_then F h.0 u v rs r h.2 s)
 

@@ -1,11 +1,12 @@
 -- Which world a run that is driven is at, which moves it may make, and what its answer is.
-use Rattle.std.specs.Prelude.{◌≡◌, ℕ, Some, None, length, slice_get}
+use Rattle.std.specs.Prelude.{◌≡◌, ℕ, List, Some, None, length, slice_get}
 use Rattle.ps_flow.specs.Openings.{Tells}
 use Rattle.ps_flow.specs.Standing.{Stands}
 use Rattle.ps_frame.specs.Causes.{Cause}
 use Rattle.ps_frame.specs.Functions.{Functions, IsLawful}
 use Rattle.ps_frame.specs.Tables.{Frame, IsWhole, Table}
 use Rattle.ps_frame.specs.declared.refusal.PolarsError.{PolarsError}
+use Rattle.ps_frame.specs.declared.refusal.PolarsError.TheVariants as error
 use Rattle.ps_meaning.specs.Errors.{cause_error}
 use Rattle.ps_meaning.specs.Shape.{PhysicalMeans, PhysicalNode, Shape, in_memory_sink}
 use Rattle.ps_meaning.specs.Sound.{IsSound}
@@ -13,8 +14,8 @@ use Rattle.ps_options.specs.declared.options.Options.{Options}
 use Rattle.ps_turns.specs.Tasks.{Piece}
 use Rattle.ps_world.specs.Opening.{Reaches}
 use Rattle.ps_world.specs.Promises.{NamesCause}
-use Rattle.ps_world.specs.Step.{Steps}
-use Rattle.ps_world.specs.World.{Record, World, handed_in}
+use Rattle.ps_world.specs.Step.{Replays, Steps}
+use Rattle.ps_world.specs.World.{Ending, Record, World, faulty, finished, handed_in, running}
 use Rattle.turn_laws.specs.Updating.{SeenNode}
 use Rattle.world_families.specs.Kinds.{IsStreaming}
 use Rattle.world_records.specs.Shown.{IsEnabled, move_made}
@@ -46,6 +47,16 @@ IsAnswer F shape t =
 abbrev pub IsFaultOf : Functions → Shape → PolarsError → Type 0
 IsFaultOf F shape e = (c : Cause) × NamesCause F shape c × (e ≡ cause_error c)
 
+-- with which error a run stops whose world has this ending: that of its fault, or want of memory where it has none
+abbrev pub error_at : Ending → PolarsError
+error_at running = error.OutOfMemory
+error_at finished = error.OutOfMemory
+error_at (faulty c) = cause_error c
+
+-- a run of the shape comes to a world at which it stops with this error
+abbrev pub StopsWith : Functions → Shape → Options → PolarsError → Type 0
+StopsWith F shape o e = (w : World) × Reaches F shape o w × (e ≡ error_at w.ending)
+
 -- THE RUN
 -- the record is of a hand-in by this worker
 abbrev pub IsHandInBy : (worker : ℕ) → Record → Type 0
@@ -65,6 +76,10 @@ module _ {N P : Type 0} (Has : Options → N → SeenNode → Type 0) (Shows : P
   -- whichever world the run was at, it is still there
   abbrev pub StaysAt : (old new : Run N P) → Type 0
   StaysAt old new = (F : Functions) (shape : Shape) (o : Options) (w : World) → IsAt F shape o w old → IsAt F shape o w new
+
+  -- the run is at a world to which steps lead from w
+  abbrev pub HasGoneOn : Functions → Shape → Options → World → Run N P → Type 0
+  HasGoneOn F shape o w run = (records : List Record) × (v : World) × Replays F w records v × IsAt F shape o v run
 
   -- A worker that has no piece may make the move.
   pub record MayMake (F : Functions) (shape : Shape) (o : Options) (w : World) (worker : ℕ) (move : Move) (run : Run N P) : Type 0 where

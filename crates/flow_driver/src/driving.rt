@@ -1,6 +1,6 @@
 //! A run that is driven to its end by one thread.
-ghost use Rattle.std.specs.Prelude.{◌≡◌, ◌≢◌, ◌⊎◌, ℕ, Err, IfErr, IfNone, IfOk, IfSome, None, OnErr, OnOk, Some, slice_get};
-ghost use Rattle.flow_driver.specs.Runs.{CanBeDriven, HasOneSink, HasStepped, IsAnswer, IsAt, IsFaultOf};
+ghost use Rattle.std.specs.Prelude.{◌≡◌, ◌≢◌, ◌⊎◌, ℕ, Err, IfErr, IfNone, IfOk, IfSome, None, OnErr, OnOk, Some, slice_get, unwrap_or};
+ghost use Rattle.flow_driver.specs.Runs.{CanBeDriven, HasGoneOn, HasOneSink, HasStepped, IsAnswer, IsAt, IsFaultOf, StaysAt, StopsWith};
 ghost use Rattle.ps_flow.specs.Openings.{IsBuiltOf};
 ghost use Rattle.ps_frame.specs.Functions.{Functions};
 ghost use Rattle.ps_frame.specs.declared.refusal.PolarsError.{PolarsError};
@@ -31,9 +31,10 @@ fn place_after(made: Move) -> u32 {
 }
 
 impl<N: MoveNode + StoreNode> Run<N, N::Piece> {
-    /// The error of a run that can't go on.
+    /// The error of a run that can't go on: that of its fault, or want of memory in a run that has none.
     fn error(&self) -> PolarsError
-        ensures { (F : Functions) (shape : Shape) (o : RunOptions) (w : RunWorld) → IsAt N.Has N.Shows N.IsFor F shape o w self.now → (result ≡ PolarsError.OutOfMemory) ⊎ IsFaultOf F shape result }
+        ensures told { (F : Functions) (shape : Shape) (o : RunOptions) (w : RunWorld) → IsAt N.Has N.Shows N.IsFor F shape o w self.now → result ≡ unwrap_or self.now.world.fault PolarsError.OutOfMemory }
+        ensures fault { (F : Functions) (shape : Shape) (o : RunOptions) (w : RunWorld) → IsAt N.Has N.Shows N.IsFor F shape o w self.now → (result ≡ PolarsError.OutOfMemory) ⊎ IsFaultOf F shape result }
     {
         match self.fault() {
             Some(error) => fault_again(error),
@@ -44,7 +45,7 @@ impl<N: MoveNode + StoreNode> Run<N, N::Piece> {
     /// Some move is made by worker 0, where no worker has a piece. Answers from which node on the next one is to be looked for, or
     /// none in a finished run.
     ///
-    /// Fails only for want of memory.
+    /// Fails only for want of memory: the run is then at the world at which it was, and has no fault.
     fn advance(&mut self, alloc: Global, from: u32) -> PolarsResult<Option<u32>>
         requires at { (F : Functions) × (shape : Shape) × (o : RunOptions) × (w : RunWorld) × IsAt N.Has N.Shows N.IsFor F shape o w self.old }
         requires unmarked { self.old.world.fault ≡ None }
@@ -53,6 +54,8 @@ impl<N: MoveNode + StoreNode> Run<N, N::Piece> {
         ensures finished { IfOk result (λ next. IfNone next ((F : Functions) (shape : Shape) (o : RunOptions) (w : RunWorld) → IsAt N.Has N.Shows N.IsFor F shape o w self.old → w.ending ≡ finished)) }
         ensures same { IfOk result (λ next. IfNone next (self.new ≡ self.old)) }
         ensures memory { OnErr result (result ≡ Err PolarsError.OutOfMemory) }
+        ensures stays { OnErr result (StaysAt N.Has N.Shows N.IsFor self.old self.new) }
+        ensures told { OnErr result (unwrap_or self.new.world.fault PolarsError.OutOfMemory ≡ PolarsError.OutOfMemory) }
     {
         match self.enabled(from) {
             Some(found) => match self.make(alloc, found, 0) {
@@ -65,6 +68,9 @@ impl<N: MoveNode + StoreNode> Run<N, N::Piece> {
 
     /// One step: a piece that is out is handed in, or a move is made. Answers from which node on the next one is to be looked for,
     /// or none in a finished run.
+    ///
+    /// Fails by the error of the run's fault, and in a run that has none for want of memory. The run is then at the world at which it
+    /// was.
     fn step<C: ComputePiece<N>>(
         &mut self,
         alloc: Global,
@@ -76,6 +82,8 @@ impl<N: MoveNode + StoreNode> Run<N, N::Piece> {
         ensures finished { IfOk result (λ next. IfNone next ((shape : Shape) (o : RunOptions) (w : RunWorld) → IsAt N.Has N.Shows N.IsFor (C.told functions.now) shape o w self.old → w.ending ≡ finished)) }
         ensures same { IfOk result (λ next. IfNone next ((self.new ≡ self.old) × (self.old.world.fault ≡ None))) }
         ensures fault { IfErr result (λ e. (shape : Shape) (o : RunOptions) (w : RunWorld) → IsAt N.Has N.Shows N.IsFor (C.told functions.now) shape o w self.old → (e ≡ PolarsError.OutOfMemory) ⊎ IsFaultOf (C.told functions.now) shape e) }
+        ensures told { IfErr result (λ e. e ≡ unwrap_or self.new.world.fault PolarsError.OutOfMemory) }
+        ensures stays { OnErr result (StaysAt N.Has N.Shows N.IsFor self.old self.new) }
     {
         if self.has_fault() {
             return Err(self.error());
@@ -94,8 +102,8 @@ impl<N: MoveNode + StoreNode> Run<N, N::Piece> {
 
     /// Steps until the run is finished. A piece that was claimed is handed in before the next move.
     ///
-    /// Fails by the error of the run's fault, or for want of memory. Each step writes a record, and every run ends after finitely
-    /// many steps.
+    /// Fails by the error of the run's fault, and in a run that has none for want of memory. Whether it fails or not, the run is at a
+    /// world to which its steps have led. Each step writes a record, and every run ends after finitely many steps.
     pub fn run_to_end<C: ComputePiece<N>>(
         &mut self,
         alloc: Global,
@@ -105,6 +113,8 @@ impl<N: MoveNode + StoreNode> Run<N, N::Piece> {
         ensures finished { OnOk result ((shape : Shape) (o : RunOptions) (w : RunWorld) → IsAt N.Has N.Shows N.IsFor (C.told functions.now) shape o w self.old → (v : RunWorld) × (v.ending ≡ finished) × IsAt N.Has N.Shows N.IsFor (C.told functions.now) shape o v self.new) }
         ensures unmarked { OnOk result (self.new.world.fault ≡ None) }
         ensures fault { IfErr result (λ e. (shape : Shape) (o : RunOptions) (w : RunWorld) → IsAt N.Has N.Shows N.IsFor (C.told functions.now) shape o w self.old → (e ≡ PolarsError.OutOfMemory) ⊎ IsFaultOf (C.told functions.now) shape e) }
+        ensures told { IfErr result (λ e. e ≡ unwrap_or self.new.world.fault PolarsError.OutOfMemory) }
+        ensures goes_on { (shape : Shape) (o : RunOptions) (w : RunWorld) → IsAt N.Has N.Shows N.IsFor (C.told functions.now) shape o w self.old → HasGoneOn N.Has N.Shows N.IsFor (C.told functions.now) shape o w self.new }
     {
         let mut from = 0;
         loop {
@@ -125,7 +135,7 @@ impl<N: MoveNode + StoreNode> Run<N, N::Piece> {
 /// its schema. The graph has to be as it was put together of a sound shape with one sink, all of whose nodes stream.
 ///
 /// Fails by the error of a cause that breaks its node in some meaning, or that says that this node has too many rows, where it is
-/// large; else only for want of memory.
+/// large; else only for want of memory. The run has then come to a world that has this fault, or to one that has none.
 pub fn drive<N: MoveNode + StoreNode, C: ComputePiece<N>>(
     alloc: Global,
     graph: Graph<N>,
@@ -136,6 +146,7 @@ pub fn drive<N: MoveNode + StoreNode, C: ComputePiece<N>>(
     requires built { (shape : Shape) × CanBeDriven (C.told functions.now) shape × HasOneSink shape × IsBuiltOf N.IsNew shape graph }
     ensures answer { IfOk result (λ table. (shape : Shape) → CanBeDriven (C.told functions.now) shape → HasOneSink shape → IsBuiltOf N.IsNew shape graph → IsAnswer (C.told functions.now) shape table) }
     ensures fault { IfErr result (λ e. (shape : Shape) → CanBeDriven (C.told functions.now) shape → IsBuiltOf N.IsNew shape graph → (e ≡ PolarsError.OutOfMemory) ⊎ IsFaultOf (C.told functions.now) shape e) }
+    ensures told { IfErr result (λ e. (shape : Shape) → CanBeDriven (C.told functions.now) shape → IsBuiltOf N.IsNew shape graph → StopsWith (C.told functions.now) shape options.now e) }
 {
     let mut run = match Run::new(alloc, graph, options) {
         Ok(run) => run,

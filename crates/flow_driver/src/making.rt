@@ -1,5 +1,5 @@
 //! How the moves of a run are made.
-ghost use Rattle.std.specs.Prelude.{◌≡◌, ℕ, Err, OnErr, OnOk};
+ghost use Rattle.std.specs.Prelude.{◌≡◌, ℕ, Err, OnErr, OnOk, Some};
 ghost use Rattle.flow_driver.specs.Runs.{HasMade, MayMake, StaysAt};
 ghost use Rattle.ps_frame.specs.Functions.{Functions};
 ghost use Rattle.ps_frame.specs.declared.refusal.PolarsError.{PolarsError};
@@ -32,11 +32,12 @@ impl<N: MoveNode + StoreNode> Run<N, N::Piece> {
         }
     }
 
-    /// The next phase is opened.
+    /// The next phase is opened. Where memory is missing that is marked, since the nodes may have changed.
     fn open(&mut self, alloc: Global) -> PolarsResult<()>
         requires { (F : Functions) × (shape : Shape) × (o : Options) × (w : RunWorld) × (worker : ℕ) × MayMake N.Has N.Shows N.IsFor F shape o w worker Move.Open self.old }
         ensures made { OnOk result ((F : Functions) (shape : Shape) (o : Options) (w : RunWorld) (worker : ℕ) → MayMake N.Has N.Shows N.IsFor F shape o w worker Move.Open self.old → HasMade N.Has N.Shows N.IsFor F shape o w Move.Open self.new) }
         ensures stays { OnErr result (StaysAt N.Has N.Shows N.IsFor self.old self.new) }
+        ensures marked { OnErr result (self.new.world.fault ≡ Some PolarsError.OutOfMemory) }
         ensures memory { OnErr result (result ≡ Err PolarsError.OutOfMemory) }
     {
         self.world.open_phase(alloc)
@@ -80,6 +81,7 @@ impl<N: MoveNode + StoreNode> Run<N, N::Piece> {
         requires { (F : Functions) × (shape : Shape) × (o : Options) × (w : RunWorld) × MayMake N.Has N.Shows N.IsFor F shape o w worker found self.old }
         ensures made { OnOk result ((F : Functions) (shape : Shape) (o : Options) (w : RunWorld) → MayMake N.Has N.Shows N.IsFor F shape o w worker found self.old → HasMade N.Has N.Shows N.IsFor F shape o w found self.new) }
         ensures stays { OnErr result (StaysAt N.Has N.Shows N.IsFor self.old self.new) }
+        ensures marked { found ≡ Move.Open → OnErr result (self.new.world.fault ≡ Some PolarsError.OutOfMemory) }
         ensures memory { OnErr result (result ≡ Err PolarsError.OutOfMemory) }
     {
         match found {

@@ -1,6 +1,6 @@
 //! A run that is driven.
-ghost use Rattle.std.specs.Prelude.{◌≡◌, ◌≢◌, ◌⊎◌, ◌↔◌, ℕ, Err, IfErr, IfNone, IfOk, IfSome, IsTrue, None, OnErr, Some, is_some, option_copied, slice_get};
-ghost use Rattle.flow_driver.specs.Runs.{CanBeDriven, HasOneSink, IsAnswer, IsAt, IsFaultOf};
+ghost use Rattle.std.specs.Prelude.{◌≡◌, ◌≢◌, ◌⊎◌, ◌↔◌, ℕ, Err, IfErr, IfNone, IfOk, IfSome, IsTrue, None, OnErr, Some, is_some, option_copied, slice_get, unwrap_or};
+ghost use Rattle.flow_driver.specs.Runs.{CanBeDriven, HasOneSink, IsAnswer, IsAt, IsFaultOf, error_at};
 ghost use Rattle.ps_flow.specs.Openings.{IsBuiltOf};
 ghost use Rattle.ps_frame.specs.Causes.{Cause};
 ghost use Rattle.ps_frame.specs.Functions.{Functions};
@@ -70,6 +70,7 @@ impl<N: MoveNode + StoreNode> Run<N, N::Piece> {
     pub fn fault(&self) -> Option<&PolarsError>
         ensures fault { (F : Functions) (shape : Shape) (o : RunOptions) (w : RunWorld) → IsAt N.Has N.Shows N.IsFor F shape o w self.now → IfSome (option_copied result) (λ e. (e ≡ PolarsError.OutOfMemory) ⊎ IsFaultOf F shape e) }
         ensures faulty { (F : Functions) (shape : Shape) (o : RunOptions) (w : RunWorld) (c : Cause) → IsAt N.Has N.Shows N.IsFor F shape o w self.now → w.ending ≡ faulty c → option_copied result ≡ Some (cause_error c) }
+        ensures told { (F : Functions) (shape : Shape) (o : RunOptions) (w : RunWorld) → IsAt N.Has N.Shows N.IsFor F shape o w self.now → unwrap_or (option_copied result) PolarsError.OutOfMemory ≡ error_at w.ending }
     {
         // What is promised of every reached world.
         streaming_runs_keep_promises();

@@ -2,7 +2,6 @@ mod AtWork
 mod Between
 mod Looking
 mod Moves
-mod Notes
 mod Owning
 mod Parts
 mod OnePlace

@@ -1,7 +1,6 @@
 //! Which moves may be made in a run.
 #![tactic(auto)]
 
-pub mod agenda;
 pub mod move_node;
 mod node_moves;
 pub mod picking;
@@ -9,6 +8,5 @@ mod places;
 mod waiting;
 mod workers;
 
-pub use agenda::Agenda;
 pub use move_node::MoveNode;
 pub use picking::enabled;

@@ -29,21 +29,6 @@ fn are_all_left(marks: &[Mark]) -> bool
     marks.iter().all(|mark| is_left(*mark))
 }
 
-/// Whether the run goes on, and a phase is open.
-pub(crate) fn is_under_way<N: RunNode>(world: &World<N>) -> bool
-    ensures unmarked { IsTrue result → world.now.fault ≡ None }
-    ensures stands { IsTrue result → (w : RunWorld) → Stands N.Has w world.now → IsTrue w.is_open × (w.ending ≡ running) }
-    ensures told { IsTrue result → (w : RunWorld) → Tells w world.now → w.ending ≡ running }
-{
-    if world.has_fault() {
-        return false;
-    }
-    if world.finished() {
-        return false;
-    }
-    world.is_open()
-}
-
 /// The end of the open phase, if all its nodes are closed.
 fn end_of<N: RunNode>(world: &World<N>) -> Option<Move>
     ensures some { IfSome result (λ m. (F : Functions) (w : RunWorld) → Stands N.Has w world.now → IsTrue w.is_open → w.ending ≡ running → IsEnabled F w m) }

@@ -1,5 +1,6 @@
 -- A move, or none.
 use Rattle.std.proofs.Common.{arith, rules}
+use Rattle.flow_driver.proofs.Answering.{still_short}
 use Rattle.flow_driver.proofs.Ending.{idle_there}
 use Rattle.flow_driver.proofs.driving.Run+N+N+Piece.advance.Goals as goal
 
@@ -21,3 +22,8 @@ returns-in-Ok-clause-stepped g c = λ F shape o w at.
 
 pub returns-in-None-clause-finished : goal.returns-in-None-clause-finished
 returns-in-None-clause-finished g c = λ F shape o w at. c.in-None.ensures.over F shape o w at c.requires.unmarked c.requires.idle
+
+pub returns-in-Err-clause-told : goal.returns-in-Err-clause-told
+returns-in-Err-clause-told g c =
+    let r = c.requires.at in
+    still_short g.N.RunNode.Has g.N.PieceNode.Shows g.N.ClaimNode.IsFor r.0 r.1 r.2 r.3 c.args.self.now c.make.new.self r.4 c.requires.unmarked (c.in-Err.ensures.stays r.0 r.1 r.2 r.3 r.4)

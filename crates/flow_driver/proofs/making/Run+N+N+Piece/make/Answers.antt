@@ -1,5 +1,5 @@
 -- By the move.
-use Rattle.std.proofs.Common.{rules, subst}
+use Rattle.std.proofs.Common.{◌≡◌, ◌∙◌, rules, subst, sym}
 use Rattle.flow_driver.proofs.Moves.{made_as, made_by}
 use Rattle.flow_driver.proofs.making.Run+N+N+Piece.make.Goals as goal
 use Rattle.flow_driver.specs.Runs.{MayMake}
@@ -34,3 +34,18 @@ returns-in-Close-clause-made g c = made_by g.N.RunNode.Has g.N.PieceNode.Shows g
 
 pub returns-in-End-clause-made : goal.returns-in-End-clause-made
 returns-in-End-clause-made g c = made_by g.N.RunNode.Has g.N.PieceNode.Shows g.N.ClaimNode.IsFor c.end.result c.args.worker c.args.self.now c.end.new.self c.args.found turn.End c.in-End.is c.end.ensures.made
+
+pub returns-in-Open-clause-marked : goal.returns-in-Open-clause-marked
+returns-in-Open-clause-marked g c = λ is. c.open.ensures.marked
+
+pub returns-in-Claim-clause-marked : goal.returns-in-Claim-clause-marked
+returns-in-Claim-clause-marked g c = λ is. absurd (let clash : turn.Claim c.in-Claim.node c.in-Claim.input ≡ turn.Open = sym c.in-Claim.is ∙ is in cc)
+
+pub returns-in-Pull-clause-marked : goal.returns-in-Pull-clause-marked
+returns-in-Pull-clause-marked g c = λ is. absurd (let clash : turn.Pull c.in-Pull.node c.in-Pull.input ≡ turn.Open = sym c.in-Pull.is ∙ is in cc)
+
+pub returns-in-Close-clause-marked : goal.returns-in-Close-clause-marked
+returns-in-Close-clause-marked g c = λ is. absurd (let clash : turn.Close c.in-Close.node ≡ turn.Open = sym c.in-Close.is ∙ is in cc)
+
+pub returns-in-End-clause-marked : goal.returns-in-End-clause-marked
+returns-in-End-clause-marked g c = λ is. absurd (let clash : turn.End ≡ turn.Open = sym c.in-End.is ∙ is in cc)

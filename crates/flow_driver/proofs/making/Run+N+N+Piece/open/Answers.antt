@@ -2,6 +2,7 @@
 use Rattle.std.proofs.Common.{refl, rules}
 use Rattle.std.proofs.lemmas.Result.{on_ok_weaker}
 use Rattle.worker_pieces.proofs.Choices.{both_on_err}
+use Rattle.flow_driver.proofs.Answering.{marked_short}
 use Rattle.flow_driver.proofs.Moves.{has_opened, marked_at, opens_here}
 use Rattle.flow_driver.proofs.Standing.{facts_at, plain_at}
 use Rattle.worker_pieces.proofs.Whole.{is_whole}
@@ -25,3 +26,9 @@ pub returns-clause-stays : goal.returns-clause-stays
 returns-clause-stays g c = both_on_err c.open_phase.result
     (λ short marked. λ F shape o w at.
     marked_at g.N.RunNode.Has g.N.PieceNode.Shows g.N.ClaimNode.IsFor F shape o w 0 c.args.self.now at _ (short w (at.stands c.requires.5.unmarked)) marked refl) c.open_phase.ensures.short c.open_phase.ensures.marked
+
+pub returns-clause-marked : goal.returns-clause-marked
+returns-clause-marked g c = both_on_err c.open_phase.result
+    (λ short marked.
+    let r = c.requires in
+    marked_short g.N.RunNode.Has g.N.PieceNode.Shows g.N.ClaimNode.IsFor r.0 r.1 r.2 r.3 c.args.self.now r.5.at r.5.unmarked _ (short r.3 (r.5.at.stands r.5.unmarked)) marked) c.open_phase.ensures.short c.open_phase.ensures.marked
