@@ -1,2 +1,4 @@
-mod Whole
 mod Plans
+mod Ready
+mod Tested
+mod WholeSteps

@@ -1,1 +1,3 @@
-pub mod Built
+pub mod Entries
+pub mod Going
+pub mod Scanned

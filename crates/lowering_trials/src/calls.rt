@@ -1,5 +1,4 @@
 // Worked calls over a source, worked out by hand from the rules.
-ghost use Rattle.std.specs.Prelude.{◌≡◌, IfOk, OnOk};
 ghost use Rattle.std.specs.List.{AllByRecursion};
 ghost use Rattle.ps_frame.specs.Functions.{Functions};
 ghost use Rattle.ps_frame.specs.Trees.{IsComplete, tree_at};
@@ -7,59 +6,22 @@ ghost use Rattle.ps_fresh.specs.Known.{Remembers};
 ghost use Rattle.ps_meaning.specs.Steps.{key_trees};
 ghost use Rattle.valid_plans.specs.Valid.{IsValidWith};
 
-use crate::documents::{below_sink, document, select_of, spelled, table_of, valid_plan};
-use crate::written::{push_named, told};
+use crate::beginnings::{begun, source_of};
+use crate::select_documents::select;
+use crate::valid::select_of;
 use expr_lowering::exprs::{build_select_stream, lower_exprs};
-use keyed_slots::SlotMap;
-use lowering_parts::nodes::insert;
+use lowering_scripts::documents::{spelled, valid_plan};
+use lowering_scripts::exprs::push_named;
+use lowering_scripts::written::told;
 use ps_document::document::Document;
 use ps_frame::expr::AExpr;
-use ps_frame::frame::DataFrame;
-use ps_fresh::expr_cache::ExprCache;
 use ps_fresh::lowering::Lowering;
-use ps_fresh::name_source::NameSource;
 use ps_meaning::options::ExprIR;
-use ps_phys::phys::{PhysNodeKind, PhysStream};
+use ps_phys::phys::PhysStream;
 use pu_base::{Arena, Node};
 use std::alloc::Global;
 use std::test::Fail;
 use valid_plans::valid::Valid;
-
-// A lowering that has made nothing yet.
-fn begun(alloc: Global, valid: &Valid, exprs: &Arena<AExpr>) -> Result<Lowering, Fail>
-    requires { (F : Functions) × IsValidWith F valid.now exprs.now.items }
-    ensures cache { IfOk result (λ low. Remembers exprs.now.items low.cache) }
-{
-    let Ok(names) = NameSource::new(alloc, valid, exprs) else {
-        return Err(Fail::from("no names"));
-    };
-    let Ok(cache) = ExprCache::with_capacity(alloc, 0) else {
-        return Err(Fail::from("no cache"));
-    };
-    let phys_sm = SlotMap::with_capacity_and_key(alloc, 0)?;
-    Ok(Lowering {
-        phys_sm,
-        cache,
-        names,
-        origin: Node(0),
-    })
-}
-
-// The source of a table, made for the scan.
-fn source_of(alloc: Global, df: &DataFrame, low: &mut Lowering) -> Result<PhysStream, Fail>
-    ensures cache { OnOk result (low.new.cache ≡ low.old.cache) }
-{
-    let Ok(df) = df.share(alloc) else {
-        return Err(Fail::from("no table"));
-    };
-    let Ok(schema) = df.schema().try_clone(alloc) else {
-        return Err(Fail::from("no schema"));
-    };
-    let Ok(stream) = insert(alloc, low, schema, PhysNodeKind::InMemorySource { df }) else {
-        return Err(Fail::from("no source"));
-    };
-    Ok(stream)
-}
 
 // What a call for expressions leaves: the plan, what its nodes compute, and the answered expressions.
 fn called(
@@ -107,9 +69,7 @@ fn lowered(
 ) -> Result<String, Fail>
     requires { (F : Functions) × IsValidWith F valid.now exprs.old.items }
 {
-    let select = below_sink(valid, exprs)?;
-    let (asked, scan) = select_of(valid, exprs, select)?;
-    let table = table_of(valid, exprs, scan)?;
+    let (asked, table) = select_of(valid, exprs)?;
     let mut low = begun(alloc, valid, exprs)?;
     let input = source_of(alloc, table, &mut low)?;
     low.origin = Node(1);
@@ -129,7 +89,7 @@ fn lowered_plan(
         nodes,
         mut exprs,
         root,
-    } = document(alloc, columns, EXPRS, asked)?;
+    } = select(alloc, columns, EXPRS, asked)?;
     let valid = valid_plan(alloc, root, nodes, &exprs)?;
     lowered(alloc, &valid, &mut exprs, is_select)
 }
@@ -147,8 +107,8 @@ a,b lower x=7 -> 0 in-memory-source 0 -/1 reduce 1 0.0/2 zip 1 0.0,1.0/ | 0:- 1:
 a,b lower x=8 -> 0 in-memory-source 0 -/1 reduce 1 0.0/2 reduce 1 1.0/ | 0:- 1:@0=sum(a) 2:@1=sum(@0) | x=@1
 a,b lower x=9 -> 0 in-memory-source 0 -/1 simple-projection 1 0.0/2 in-memory-map 1 1.0/ | 0:- 1:b 2:@0=Reverse(b) | x=@0
 a,b lower x=10 -> 0 in-memory-source 0 -/1 select 1 0.0/2 filter 1 1.0/ | 0:- 1:@0=b,@1=Gt(a,1) 2:@1 | x=@0
-a,b lower x=11 -> 0 in-memory-source 0 -/1 select 1 0.0/2 sort 1 1.0/ | 0:- 1:@0=b 2:@0 | x=@0
-a,b lower x=12 -> 0 in-memory-source 0 -/1 select 1 0.0/2 sort 1 1.0/3 simple-projection 1 2.0/ | 0:- 1:@0=b,@1=a 2:@1 3:@0 | x=@0
+a,b lower x=11 -> 0 in-memory-source 0 -/1 select 1 0.0/2 sort 1 1.0/ | 0:- 1:@0=b 2:@0;true;false | x=@0
+a,b lower x=12 -> 0 in-memory-source 0 -/1 select 1 0.0/2 sort 1 1.0/3 simple-projection 1 2.0/ | 0:- 1:@0=b,@1=a 2:@1;true;false 3:@0 | x=@0
 a,b lower x=13,y=14 -> 0 in-memory-source 0 -/1 in-memory-map 1 0.0/ | 0:- 1:@0=n_unique(a),@1=count(b) | x=@0,y=@1
 a,b lower x=15 -> 0 in-memory-source 0 -/1 select 1 0.0/2 filter 1 1.0/3 reduce 1 2.0/ | 0:- 1:@0=b,@1=Gt(a,1) 2:@1 3:@2=min(@0) | x=@2
 a,b lower x=16 -> 0 in-memory-source 0 -/1 reduce 1 0.0/ | 0:- 1:@0=sum(a) | x=cast(@0)
@@ -173,7 +133,7 @@ a,b select b=1,a=0 -> 0 in-memory-source 0 -/1 simple-projection 1 0.0/ | 0:- 1:
 a,b select x=1 -> 0 in-memory-source 0 -/1 select 1 0.0/ | 0:- 1:x=b
 a,b select x=2,y=23 -> 0 input-independent-select 1 -/ | 0:- 1:x=1,y=sum(1)
 a,b select s=4,b=1 -> 0 in-memory-source 0 -/1 reduce 1 0.0/2 zip 1 0.0,1.0/3 select 1 2.0/ | 0:- 1:@0=sum(a) 2:- 3:s=@0,b=b
-a,b select a=0,x=2,p=7,c=16,s=11,k=12,g=18,f=10,m=4,t=17,r=9,l=19,n=5,u=13 -> 0 in-memory-source 0 -/1 select 1 0.0/2 sort 1 1.0/3 select 1 0.0/4 sort 1 3.0/5 simple-projection 1 4.0/6 select 1 0.0/7 filter 1 6.0/8 in-memory-map 1 0.0/9 reduce 1 0.0/10 zip 1 0.0,2.0,5.0,7.0,8.0,9.0/11 select 1 10.0/ | 0:- 1:@2=b 2:@2 3:@3=b,@4=a 4:@4 5:@3 6:@6=b,@7=Gt(a,1) 7:@7 8:@5=gather(b,1),@10=Reverse(b),@11=slice(b,1,2),@13=n_unique(a) 9:@0=sum(a),@1=sum(a),@8=sum(a),@9=sum(a),@12=len 10:- 11:a=a,x=1,p=Plus(b,@0),c=cast(@1),s=@2,k=@3,g=@5,f=@6,m=@8,t=if(Gt(a,1),@9,b),r=@10,l=@11,n=@12,u=@13
+a,b select a=0,x=2,p=7,c=16,s=11,k=12,g=18,f=10,m=4,t=17,r=9,l=19,n=5,u=13 -> 0 in-memory-source 0 -/1 select 1 0.0/2 sort 1 1.0/3 select 1 0.0/4 sort 1 3.0/5 simple-projection 1 4.0/6 select 1 0.0/7 filter 1 6.0/8 in-memory-map 1 0.0/9 reduce 1 0.0/10 zip 1 0.0,2.0,5.0,7.0,8.0,9.0/11 select 1 10.0/ | 0:- 1:@2=b 2:@2;true;false 3:@3=b,@4=a 4:@4;true;false 5:@3 6:@6=b,@7=Gt(a,1) 7:@7 8:@5=gather(b,1),@10=Reverse(b),@11=slice(b,1,2),@13=n_unique(a) 9:@0=sum(a),@1=sum(a),@8=sum(a),@9=sum(a),@12=len 10:- 11:a=a,x=1,p=Plus(b,@0),c=cast(@1),s=@2,k=@3,g=@5,f=@6,m=@8,t=if(Gt(a,1),@9,b),r=@10,l=@11,n=@12,u=@13
 "#;
 
 // What a case gives, and what it should.

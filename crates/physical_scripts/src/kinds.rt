@@ -293,3 +293,14 @@ pub fn kind(alloc: Global, word: &str, inputs: &str, text: &str) -> Result<PhysN
         _ => over_one(alloc, word, stream(inputs)?, text),
     }
 }
+
+/// A node of a word over these inputs, with parameters of no account.
+pub fn bare_kind(alloc: Global, word: &str, inputs: &str) -> Result<PhysNodeKind, Fail> {
+    match word {
+        "negative-slice" => kind(alloc, "slice", inputs, "-1"),
+        "filter" => kind(alloc, word, inputs, "0"),
+        "join" => kind(alloc, word, inputs, "cross/-/-"),
+        "zip-null-extend" => kind(alloc, "zip-extend", inputs, "-"),
+        _ => kind(alloc, word, inputs, "-"),
+    }
+}

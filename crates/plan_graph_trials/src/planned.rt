@@ -1,9 +1,10 @@
 // The graphs of documents' plans.
-ghost use Rattle.std.specs.Prelude.{◌≡◌, ◌<◌, IsSome};
+ghost use Rattle.std.specs.Prelude.{IsSome};
 ghost use Rattle.keyed_slots.specs.Slots.{value_at};
 ghost use Rattle.ps_phys.specs.Shown.{ReadsWhatIsThere};
 
 use keyed_slots::{SecondaryMap, SlotMap};
+use lowering_scripts::documents::validated;
 use plan_graphs::graphs::physical_plan_to_graph;
 use plan_lowering::physical::build_physical_plan;
 use plan_scripts::functions::TwoSame;
@@ -16,12 +17,9 @@ use ps_nodes::flow::FlowNode;
 use ps_phys::order::leaving_order;
 use ps_phys::phys::{PhysNode, PhysNodeKey};
 use ps_phys::text::plan_text;
-use ps_validate::validate::validate;
-use pu_base::{Arena, Steps};
+use pu_base::Arena;
 use sound_plans::plans::check_plan;
 use std::alloc::Global;
-use std::marker::Brand;
-use std::sync::ledger::{Blank, Ledger};
 use std::test::Fail;
 
 /// The graph of a plan, which node each physical node became, the physical nodes in the order of the plan's text, that text, and how
@@ -79,33 +77,16 @@ fn checked<F: Functions>(
     })
 }
 
-// What the plan of a document becomes.
-fn lowered_with<F: Functions, L: Ledger>(
-    blank: Blank,
-    alloc: Global,
-    document: Document,
-    functions: &F,
-) -> Result<Planned, Fail>
-    requires name { blank.name ≡ L.name }
-    requires parts { blank.parts ≡ L.parts }
-    requires some { 0 < L.parts }
-{
+/// What the plan of a document becomes; its functions are two that answer a table by itself.
+pub fn lowered(alloc: Global, document: Document) -> Result<Planned, Fail> {
     let Document {
         nodes,
         mut exprs,
         root,
     } = document;
-    let mut steps = Steps::<L>::new(blank);
-    let Ok(valid) = validate(alloc, root, nodes, &exprs, functions, &mut steps) else {
-        return Err(Fail::from("no valid plan"));
-    };
-    let Ok((phys, root)) = build_physical_plan(alloc, &valid, &mut exprs, functions) else {
+    let valid = validated(alloc, root, nodes, &exprs, &TwoSame)?;
+    let Ok((phys, root)) = build_physical_plan(alloc, &valid, &mut exprs, &TwoSame) else {
         return Err(Fail::from("no physical plan"));
     };
-    checked(alloc, &phys, root, functions, &exprs)
-}
-
-/// What the plan of a document becomes; its functions are two that answer a table by itself.
-pub fn lowered(alloc: Global, document: Document) -> Result<Planned, Fail> {
-    lowered_with::<TwoSame, Brand>(Blank::new(1), alloc, document, &TwoSame)
+    checked(alloc, &phys, root, &TwoSame, &exprs)
 }

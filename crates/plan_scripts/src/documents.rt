@@ -25,6 +25,15 @@ pub fn document(alloc: Global, nodes: &str) -> Result<Document, Fail> {
     Ok(document)
 }
 
+/// The text of a physical plan with `/` for the end of a line.
+pub fn in_one_line(alloc: Global, text: &str) -> Result<String, Fail> {
+    let mut line = String::new(alloc);
+    for c in text.chars() {
+        line.push(if c == '\n' { '/' } else { c })?;
+    }
+    Ok(line)
+}
+
 const TABLES: &str = r#"[["a","int",[1,2]],["b","int",[3,4]]],[["c","int",[5]]]"#;
 
 const EXPRS: &str =

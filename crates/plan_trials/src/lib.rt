@@ -1,9 +1,14 @@
-// Trials of physical plans, as text: the multiplexers that they get, and the readers of their ports.
+// Trials of physical plans that are put together from words: their texts, the multiplexers that they get, the readers of their ports,
+// and whether they are sound.
 #![tactic(auto)]
 
 #[cfg(test)]
-mod building;
+mod checks;
+#[cfg(test)]
+mod large;
 #[cfg(test)]
 mod multiplexers;
 #[cfg(test)]
 mod readers;
+#[cfg(test)]
+mod texts;

@@ -1,6 +1,6 @@
 // Nodes that several readers take.
-use crate::building::{Nodes, built};
 use keyed_slots::Key;
+use physical_scripts::building::{Nodes, built_in_order};
 use ps_multiplexers::multiplexers::insert_multiplexers;
 use ps_phys::phys::{PhysNodeKind, PhysStream};
 use std::alloc::Global;
@@ -82,7 +82,7 @@ fn readers_take_ports_in_the_order_of_the_walk(rt: HostRuntime) -> Result<(), Fa
         let Some((nodes, wanted)) = line.split_once(" ->") else {
             return Err(Fail::from("a plan without what it reads"));
         };
-        let (mut phys, root) = built(alloc, nodes)?;
+        let (mut phys, root) = built_in_order(alloc, nodes)?;
         let Ok(()) = insert_multiplexers(alloc, root, &mut phys) else {
             return Err(Fail::from("no multiplexers"));
         };
@@ -97,7 +97,7 @@ fn readers_take_ports_in_the_order_of_the_walk(rt: HostRuntime) -> Result<(), Fa
 #[test]
 fn what_the_root_does_not_reach_counts_for_nothing(rt: HostRuntime) -> Result<(), Fail> {
     let alloc = rt.alloc();
-    let (mut phys, root) = built(
+    let (mut phys, root) = built_in_order(
         alloc,
         "source 0 -; filter 9 0.0; zip 9 0.0,1.0; slice 1 0.0; sink 2 3.0",
     )?;
@@ -123,7 +123,7 @@ fn unions_of_the_node_before_twice(rt: HostRuntime) -> Result<(), Fail> {
         nodes.push_str(".0")?;
     }
     nodes.push_str("; sink 1 16.0")?;
-    let (mut phys, root) = built(alloc, nodes.as_str())?;
+    let (mut phys, root) = built_in_order(alloc, nodes.as_str())?;
     let Ok(()) = insert_multiplexers(alloc, root, &mut phys) else {
         return Err(Fail::from("no multiplexers"));
     };

@@ -1,12 +1,12 @@
 // The readers of the ports of plans.
-use crate::building::built;
+use physical_scripts::building::built_in_order;
 use plan_readers::plans::check_readers;
 use std::alloc::Global;
 use std::test::Fail;
 
 // Whether each port has one reader, how many nodes there are, and how many inputs.
 fn readers_of(alloc: Global, nodes: &str) -> Result<String, Fail> {
-    let (phys, root) = built(alloc, nodes)?;
+    let (phys, root) = built_in_order(alloc, nodes)?;
     let Ok(readers) = check_readers(alloc, &phys, root) else {
         return Err(Fail::from("no look at readers"));
     };

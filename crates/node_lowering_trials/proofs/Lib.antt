@@ -1,3 +1,0 @@
-mod Whole
-mod WholeSteps
-mod Plans

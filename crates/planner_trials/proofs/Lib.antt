@@ -1,2 +1,0 @@
-mod Building
-mod Tested
