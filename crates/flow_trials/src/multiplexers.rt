@@ -1,102 +1,56 @@
 // Multiplexers: what they answer to all states of their input and of two readers.
-use flow_scripts::script::hold;
+use flow_scripts::script::obeys_table;
 use ps_nodes::flow::FlowNode;
 use ps_nodes::multiplexer::MultiplexerNode;
 use std::alloc::Global;
 use std::test::Fail;
 
+const READERS: &str = "
+B/BB B/BR B/BD B/RB B/RR B/RD B/DB B/DR B/DD
+R/BB R/BR R/BD R/RB R/RR R/RD R/DB R/DR R/DD
+D/BB D/BR D/BD D/RB D/RR D/RD D/DB D/DR D/DD
+";
+
 // Where no rows wait, a reader gets what the input says. The input is blocked where both readers are, and all is done once
 // it is, or once they are.
 const EMPTY_PIPES: &str = "
+*/DD -> D/DD
+D/** -> D/DD
 B/BB -> B/BB
-B/BR -> R/BB
-B/BD -> R/BD
-B/RB -> R/BB
-B/RR -> R/BB
-B/RD -> R/BD
-B/DB -> R/DB
-B/DR -> R/DB
-B/DD -> D/DD
+B/*D -> R/BD
+B/D* -> R/DB
+B/** -> R/BB
 R/BB -> B/RR
-R/BR -> R/RR
-R/BD -> R/RD
-R/RB -> R/RR
-R/RR -> R/RR
-R/RD -> R/RD
-R/DB -> R/DR
-R/DR -> R/DR
-R/DD -> D/DD
-D/BB -> D/DD
-D/BR -> D/DD
-D/BD -> D/DD
-D/RB -> D/DD
-D/RR -> D/DD
-D/RD -> D/DD
-D/DB -> D/DD
-D/DR -> D/DD
-D/DD -> D/DD
+R/*D -> R/RD
+R/D* -> R/DR
+R/** -> R/RR
 ";
 
 // Where rows wait for the first reader, that one gets ready; once the input is done, all is done only once that reader is.
 const FIRST_WAITS: &str = "
+*/DD -> D/DD
+D/D* -> D/DD
+D/** -> D/RD
 B/BB -> B/RB
-B/BR -> R/RB
-B/BD -> R/RD
-B/RB -> R/RB
-B/RR -> R/RB
-B/RD -> R/RD
-B/DB -> R/DB
-B/DR -> R/DB
-B/DD -> D/DD
+B/*D -> R/RD
+B/D* -> R/DB
+B/** -> R/RB
 R/BB -> B/RR
-R/BR -> R/RR
-R/BD -> R/RD
-R/RB -> R/RR
-R/RR -> R/RR
-R/RD -> R/RD
-R/DB -> R/DR
-R/DR -> R/DR
-R/DD -> D/DD
-D/BB -> D/RD
-D/BR -> D/RD
-D/BD -> D/RD
-D/RB -> D/RD
-D/RR -> D/RD
-D/RD -> D/RD
-D/DB -> D/DD
-D/DR -> D/DD
-D/DD -> D/DD
+R/*D -> R/RD
+R/D* -> R/DR
+R/** -> R/RR
 ";
 
 // Where rows wait for both.
 const BOTH_WAIT: &str = "
-B/BB -> B/RR
-B/BR -> R/RR
-B/BD -> R/RD
-B/RB -> R/RR
-B/RR -> R/RR
-B/RD -> R/RD
-B/DB -> R/DR
-B/DR -> R/DR
-B/DD -> D/DD
-R/BB -> B/RR
-R/BR -> R/RR
-R/BD -> R/RD
-R/RB -> R/RR
-R/RR -> R/RR
-R/RD -> R/RD
-R/DB -> R/DR
-R/DR -> R/DR
-R/DD -> D/DD
-D/BB -> D/RR
-D/BR -> D/RR
-D/BD -> D/RD
-D/RB -> D/RR
-D/RR -> D/RR
-D/RD -> D/RD
-D/DB -> D/DR
-D/DR -> D/DR
-D/DD -> D/DD
+*/DD -> D/DD
+D/*D -> D/RD
+D/D* -> D/DR
+D/** -> D/RR
+*/BB -> B/RR
+*/*D -> R/RD
+*/D* -> R/DR
+*/** -> R/RR
 ";
 
 // A multiplexer that was told which of its two pipes are empty, if it was told.
@@ -109,8 +63,8 @@ fn holds_of_multiplexer(
     if let Some((first, second)) = empties {
         multiplexer.see_pipes(vec![in alloc; first, second]?);
     }
-    let mut node = FlowNode::Multiplexer(multiplexer);
-    hold(alloc, &mut node, 1, 2, table)
+    let node = FlowNode::Multiplexer(multiplexer);
+    obeys_table(alloc, node, 1, 2, READERS, table)
 }
 
 // Of one that wasn't told they are empty.

@@ -5,12 +5,13 @@ ghost use Rattle.ps_meaning.specs.Steps.{user};
 
 use crate::functions::FirstRowOrNone;
 use crate::maps::calls_function;
-use crate::scripts::{Line, answers, driven, is_nowhere};
-use crate::tables::{B, D, R, WAITS};
+use crate::scripts::{answers, driven, is_nowhere};
+use crate::tables::WAITS;
 use ps_frame::refusal::Compute;
 use ps_nodes::in_memory_map::InMemoryMapNode;
 use std::alloc::Global;
 use std::test::Fail;
+use turn_scripts::tables::{ONE_INPUT, answer_in};
 
 // The map of function 0 or 1, which waits for its table.
 #[tactic(auto, using(crate::proofs::Fitting::calls_turn))]
@@ -19,7 +20,7 @@ fn waiting(alloc: Global, function: usize) -> Result<InMemoryMapNode, Fail>
     ensures waits { IfOk result (λ n. IsTrue n.waits) }
 {
     let new = calls_function(alloc, function)?;
-    let node = driven(alloc, new, &[((D, R), (D, B))])?;
+    let node = driven(alloc, new, "D/R -> D/B")?;
     if !node.waiting() {
         return Err(Fail::from("waits for no table"));
     }
@@ -64,27 +65,28 @@ fn refused_twice(alloc: Global) -> Result<InMemoryMapNode, Fail>
 }
 
 #[tactic(auto, using(crate::proofs::Fitting::calls_turn))]
-fn goes_on(alloc: Global, line: Line) -> Result<(), Fail> {
+fn goes_on(alloc: Global, states: &str) -> Result<(), Fail> {
+    let wanted = answer_in(&[WAITS], states)?;
     let node = refused_twice(alloc)?;
-    answers(alloc, node, line)
+    answers(alloc, node, states, wanted)
 }
 
 // A function that answers nothing is a fault, at no node in particular, but of no update: the map makes no table by itself.
 #[test]
 fn a_map_goes_on_waiting_behind_a_fault_of_its_function(rt: HostRuntime) -> Result<(), Fail> {
     let alloc = rt.alloc();
-    for line in WAITS {
-        goes_on(alloc, line)?;
+    for states in ONE_INPUT.split_whitespace() {
+        goes_on(alloc, states)?;
     }
     Ok(())
 }
 
 #[tactic(auto, using(crate::proofs::Fitting::calls_turn))]
-fn tells(alloc: Global, script: &[Line], waits: bool) -> Result<(), Fail> {
+fn tells(alloc: Global, script: &str, waits: bool) -> Result<(), Fail> {
     let new = calls_function(alloc, 0)?;
     let node = driven(alloc, new, script)?;
     if node.waiting() != waits {
-        return Err(Fail::new(format_args!("waiting behind {script:?}: {}", !waits)));
+        return Err(Fail::new(format_args!("waiting behind {script}: {}", !waits)));
     }
     Ok(())
 }
@@ -93,18 +95,10 @@ fn tells(alloc: Global, script: &[Line], waits: bool) -> Result<(), Fail> {
 #[test]
 fn a_map_tells_whether_it_waits(rt: HostRuntime) -> Result<(), Fail> {
     let alloc = rt.alloc();
-    tells(alloc, &[], false)?;
-    tells(alloc, &[((B, B), (R, B)), ((R, R), (R, B))], false)?;
-    tells(alloc, &[((D, B), (D, B))], true)?;
-    tells(
-        alloc,
-        &[((R, R), (R, B)), ((D, R), (D, B)), ((D, B), (D, B))],
-        true,
-    )?;
-    tells(alloc, &[((D, D), (D, D))], false)?;
-    tells(
-        alloc,
-        &[((D, R), (D, B)), ((D, D), (D, D)), ((D, R), (D, D))],
-        false,
-    )
+    tells(alloc, "", false)?;
+    tells(alloc, "B/B -> R/B\nR/R -> R/B", false)?;
+    tells(alloc, "D/B -> D/B", true)?;
+    tells(alloc, "R/R -> R/B\nD/R -> D/B\nD/B -> D/B", true)?;
+    tells(alloc, "D/D -> D/D", false)?;
+    tells(alloc, "D/R -> D/B\nD/D -> D/D\nD/R -> D/D", false)
 }

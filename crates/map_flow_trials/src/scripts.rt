@@ -8,12 +8,7 @@ use ps_ports::port_state::PortState;
 use pu_base::Node;
 use std::alloc::Global;
 use std::test::Fail;
-
-/// The states of a node's input and of its output.
-pub type Ends = (PortState, PortState);
-
-/// What a node is given, and what it must answer.
-pub type Line = (Ends, Ends);
+use turn_scripts::letters::{Given, compare, read};
 
 /// A node that makes a table of its one input, and gives it to its one output, by its own updates.
 pub trait Turns: Drop {
@@ -40,43 +35,40 @@ pub trait Turns: Drop {
         ensures { shown self.new ≡ record (shown self.old) { sent = (shown self.old).sent + 1 } };
 }
 
-/// What an update of the node answers.
-pub fn answer_to<N: Turns>(alloc: Global, node: &mut N, given: Ends) -> PolarsResult<Ends>
+/// What an update of the node answers to these states.
+pub fn answer_to<N: Turns>(alloc: Global, node: &mut N, states: &str) -> Result<Given, Fail>
     requires { CanTurn (N.shown node.old) }
     ensures { OnOk result (N.shown node.new ≡ N.shown node.old) }
 {
-    let mut recv = [given.0];
-    let mut send = [given.1];
-    // A match and no `?`: so what is said of the error is said of the answer.
-    match node.turn(alloc, &mut recv, &mut send) {
-        Ok(()) => Ok((recv[0], send[0])),
-        Err(error) => Err(error),
+    let mut given = read(alloc, states, 1, 1)?;
+    let (recv, send) = (given.recv.as_mut_slice(), given.send.as_mut_slice());
+    match node.turn(alloc, recv, send) {
+        Ok(()) => Ok(given),
+        Err(error) => Err(Fail::from(error)),
     }
 }
 
 // One update, and the answer that is wanted.
-fn obeys<N: Turns>(alloc: Global, node: &mut N, line: Line) -> Result<(), Fail>
+fn obeys<N: Turns>(alloc: Global, node: &mut N, states: &str, wanted: &str) -> Result<(), Fail>
     requires { CanTurn (N.shown node.old) }
     ensures { OnOk result (N.shown node.new ≡ N.shown node.old) }
 {
-    let (given, wanted) = line;
-    let Ok(answer) = answer_to(alloc, node, given) else {
-        return Err(Fail::from("a fault"));
-    };
-    if answer != wanted {
-        return Err(Fail::new(format_args!("{given:?} gives {answer:?}, not {wanted:?}")));
-    }
-    Ok(())
+    let answer = answer_to(alloc, node, states)?;
+    compare(alloc, states, &answer, wanted)
 }
 
-/// The node behind a script, one update for each line.
+/// The node behind a script, one update for each line: the states that it is given, and behind ` -> ` those that it must
+/// answer, as in `R/R -> R/B`.
 #[tactic(auto, using(crate::proofs::Fitting::still_turns))]
-pub fn driven<N: Turns>(alloc: Global, mut node: N, script: &[Line]) -> Result<N, Fail>
+pub fn driven<N: Turns>(alloc: Global, mut node: N, script: &str) -> Result<N, Fail>
     requires { CanTurn (N.shown node) }
     ensures { IfOk result (λ n. N.shown n ≡ N.shown node) }
 {
-    for line in script {
-        obeys(alloc, &mut node, *line)?;
+    for line in script.trim().lines() {
+        let Some((states, wanted)) = line.split_once(" -> ") else {
+            return Err(Fail::from("a line without an answer"));
+        };
+        obeys(alloc, &mut node, states, wanted)?;
     }
     Ok(node)
 }
@@ -92,13 +84,13 @@ pub fn claimed<N: Turns>(mut node: N, claims: u8) -> N
     node
 }
 
-/// The node answers as this line says, and the same once more.
+/// The node answers so to these states, and the same once more.
 #[tactic(auto, using(crate::proofs::Fitting::still_turns))]
-pub fn answers<N: Turns>(alloc: Global, mut node: N, line: Line) -> Result<(), Fail>
+pub fn answers<N: Turns>(alloc: Global, mut node: N, states: &str, wanted: &str) -> Result<(), Fail>
     requires { CanTurn (N.shown node) }
 {
-    obeys(alloc, &mut node, line)?;
-    obeys(alloc, &mut node, line)
+    obeys(alloc, &mut node, states, wanted)?;
+    obeys(alloc, &mut node, states, wanted)
 }
 
 /// An error is this fault of the computation, at no node in particular.
@@ -112,11 +104,18 @@ pub fn is_nowhere(error: PolarsError, wanted: Compute) -> Result<(), Fail> {
 }
 
 /// An update that is given these states fails by this fault, at no node in particular.
-pub fn fails<N: Turns>(alloc: Global, mut node: N, given: Ends, wanted: Compute) -> Result<(), Fail>
+pub fn fails<N: Turns>(
+    alloc: Global,
+    mut node: N,
+    states: &str,
+    wanted: Compute,
+) -> Result<(), Fail>
     requires { CanTurn (N.shown node) }
 {
-    match answer_to(alloc, &mut node, given) {
-        Ok(_answer) => Err(Fail::from("an answer")),
+    let mut given = read(alloc, states, 1, 1)?;
+    let (recv, send) = (given.recv.as_mut_slice(), given.send.as_mut_slice());
+    match node.turn(alloc, recv, send) {
+        Ok(()) => Err(Fail::from("an answer")),
         Err(error) => is_nowhere(error, wanted),
     }
 }

@@ -5,6 +5,8 @@ use Rattle.map_flow_trials.proofs.scripts.driven.Given as goal
 
 abbrev pub invariant-loop-line : goal.invariant-loop-line
 invariant-loop-line g l = record {
+  can_next : (goal.iterator-loop-line g).can_next l.line-iterator;
+  is_finite : (goal.iterator-loop-line g).is_finite l.line-iterator;
   able : CanTurn (g.N.Turns.shown l.node);
   same : g.N.Turns.shown l.node ≡ g.N.Turns.shown l.fn.node;
 }

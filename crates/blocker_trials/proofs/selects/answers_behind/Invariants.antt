@@ -1,6 +1,0 @@
--- As many were claimed as times it went round.
-use Rattle.std.proofs.Common.{◌≤◌}
-use Rattle.blocker_trials.proofs.selects.answers_behind.Given as goal
-
-abbrev pub invariant-loop : goal.invariant-loop
-invariant-loop l = l.select.sent ≤ l.counter

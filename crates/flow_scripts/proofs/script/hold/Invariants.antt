@@ -1,9 +1,0 @@
--- The node after the lines so far.
-use Rattle.flow_scripts.proofs.script.hold.Given as goal
-
-abbrev pub invariant-loop-line : goal.invariant-loop-line
-invariant-loop-line g l = record {
-  can_next : (goal.iterator-loop-line g).can_next l.line-iterator;
-  is_finite : (goal.iterator-loop-line g).is_finite l.line-iterator;
-  ports : g.N.ComputeNode.HasPorts l.node l.fn.inputs l.fn.outputs;
-}

@@ -1,5 +1,0 @@
-use Rattle.join_flow_trials.proofs.Stores.{second_came}
-use Rattle.join_flow_trials.proofs.zips.fed_second.Goals as goal
-
-pub returns-clause-came : goal.returns-clause-came
-returns-clause-came c = second_came c.args.first c.args.rows _ _ c.requires.came c.store.ensures.came

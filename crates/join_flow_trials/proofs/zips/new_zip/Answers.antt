@@ -1,8 +1,0 @@
-use Rattle.std.proofs.Common.{lit≤}
-use Rattle.join_flow_trials.proofs.Stores.{new_came, new_stores}
-use Rattle.join_flow_trials.proofs.zips.new_zip.Goals as goal
-
-pub returns : goal.returns
-returns c =
-    let new = c.in_ok-zip.ensures.new in
-    record { came = new_came _ _ _ new c.in_ok-schemas.ensures; booked = new.booked; heads = (new_stores _ _ 2 _ new c.in_ok-schemas.ensures (lit≤ tt)).heads }

@@ -1,6 +1,0 @@
-use Rattle.std.proofs.Common.{lit≤}
-use Rattle.join_flow_trials.proofs.Stores.{new_stores}
-use Rattle.join_flow_trials.proofs.zips.three_zip.Goals as goal
-
-pub returns : goal.returns
-returns c = new_stores _ _ 3 _ c.in_ok-zip.ensures.new c.in_ok-schemas.ensures (lit≤ tt)
