@@ -39,6 +39,9 @@ pub fn insert(
     ensures memory { OnErr result (result ≡ Err PolarsError.OutOfMemory) }
 {
     if low.phys_sm.inserts() >= u32::MAX as usize {
+        // By calls: else a node of each kind is taken apart right here, and the proof is the longer.
+        drop(kind);
+        drop(schema);
         return Err(PolarsError::OutOfMemory);
     }
     // Shared from the start, so that nodes above take it over without a copy.
@@ -76,8 +79,14 @@ pub fn over_same_columns(
     ensures others { low.new ≡ record low.old { phys_sm = low.new.phys_sm } }
     ensures memory { OnErr result (result ≡ Err PolarsError.OutOfMemory) }
 {
-    let schema = schema_of(alloc, low, input)?;
-    insert(alloc, low, schema, kind)
+    match schema_of(alloc, low, input) {
+        Ok(schema) => insert(alloc, low, schema, kind),
+        Err(error) => {
+            // By a call, as in `insert`.
+            drop(kind);
+            Err(error)
+        }
+    }
 }
 
 /// A node of named expressions over a stream.

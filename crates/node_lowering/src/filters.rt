@@ -39,6 +39,8 @@ pub fn filter_stream(
 {
     let schema = schema_of(alloc, low, input)?;
     let names = names_in(alloc, &schema)?;
+    // Here, so that no exit below has to take it apart.
+    drop(schema);
     let (stream, answers) = behind_columns(alloc, arena, low, input, &[predicate.node])?;
     let kept = first_under(alloc, predicate, answers.as_slice())?;
     let kind = PhysNodeKind::Filter {

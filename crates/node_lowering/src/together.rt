@@ -63,6 +63,8 @@ pub(crate) fn behind_columns(
 {
     let schema = schema_of(alloc, low, input)?;
     let names = names_in(alloc, &schema)?;
+    // Here, so that no exit below has to take it apart.
+    drop(schema);
     let mut asked = add_columns(alloc, names.as_slice(), arena)?;
     asked.extend_from_slice(exprs)?;
     let (stream, answers) = lower_together(alloc, arena, low, input, asked.as_slice())?;
@@ -99,6 +101,8 @@ pub(crate) fn before_columns(
 {
     let schema = schema_of(alloc, low, input)?;
     let names = names_in(alloc, &schema)?;
+    // Here, so that no exit below has to take it apart.
+    drop(schema);
     let columns = add_columns(alloc, names.as_slice(), arena)?;
     let mut asked = Vec::new(alloc);
     asked.extend_from_slice(exprs)?;
