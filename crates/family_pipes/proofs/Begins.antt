@@ -42,7 +42,7 @@ fresh_inputs P h n i (q ∷ qs) p c = by (fresh_inputs P h n (i + 1) qs p) (cont
     by rest (inl e) = subst P e (h q.0 q.1 n i)
     by rest (inr d) = rest d
 
-fresh_pipes : (P : Pipe → Type 0) → ((s j r i : ℕ) → P (fresh_pipe s j r i)) → (shape : Shape) (k : ℕ) (p : Pipe) → Contains (pipes_from shape k) p → P p
+pub fresh_pipes : (P : Pipe → Type 0) → ((s j r i : ℕ) → P (fresh_pipe s j r i)) → (shape : Shape) (k : ℕ) (p : Pipe) → Contains (pipes_from shape k) p → P p
 fresh_pipes P h [] k p c = absurd (none_in_nil p c)
 fresh_pipes P h (x ∷ xs) k p c = by (fresh_pipes P h xs (k + 1) p) (Contains-append_cases (pipes_to k 0 x.inputs) (pipes_from xs (k + 1)) p c)
   where
@@ -172,6 +172,7 @@ module _ (F : Functions) (shape : Shape) (o : Options) (n : ℕ) where
           cuts = λ k h. absurd (let less : k < 0 = h in omega arith);
           gives = gives_none _ _ _;
           stores = λ q c. inl (of_pipe (λ (y : Pipe). stored_rows (get_or (no_progress (length x.inputs)).stores y.wire.input []) ≡ rows_read y) (λ s j r i. ap stored_rows (blank (length x.inputs) i)) q c.0);
+          lets_go = λ p l gone. absurd (of_pipe (λ (y : Pipe). IsTrue y.is_dropped → ⊥) (λ s j r i h. let never : false ≡ true = h in cc) p l.0 gone);
           beside = λ u q c. absurd (let never : false ≡ true = u.2 in cc);
         }
 

@@ -38,7 +38,7 @@ tree-columns node s (e ∷ es) rows causes = λ i. tree_column ∷ tree-columns 
     tree_column : Column
     tree_column = (tree_goer node s e).over rows causes
 
-all-columns : (node : ℕ) (s : Fields) (is : List ℕ) (es : List Tree) (rows : List Row) (causes : List Cause) → columns rows causes (map (column_goer s) is ++ map (tree_goer node s) es) ≡ map (λ i. column_at i (table_with s rows causes)) is ++ columns_at node es (table_with s rows causes)
+pub all-columns : (node : ℕ) (s : Fields) (is : List ℕ) (es : List Tree) (rows : List Row) (causes : List Cause) → columns rows causes (map (column_goer s) is ++ map (tree_goer node s) es) ≡ map (λ i. column_at i (table_with s rows causes)) is ++ columns_at node es (table_with s rows causes)
 all-columns node s [] es rows causes = tree-columns node s es rows causes
 all-columns node s (k ∷ is) es rows causes = λ i. column_at k (table_with s rows causes) ∷ all-columns node s is es rows causes i
 

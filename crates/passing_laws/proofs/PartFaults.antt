@@ -39,11 +39,11 @@ use Rattle.passing_laws.proofs.ZipFaults.{part-breaks}
 use Rattle.passing_laws.proofs.ZipPieces.{GivesOf, table_with}
 use Rattle.passing_laws.proofs.Zips.{zip_over}
 
-columns-show : (s : Fields) (is : List ℕ) → AllShow (map (column_goer s) is)
+pub columns-show : (s : Fields) (is : List ℕ) → AllShow (map (column_goer s) is)
 columns-show s [] = tt
 columns-show s (i ∷ is) = (record { lost_same = λ causes. refl; lost_shows = λ c r h. absurd (none_in_nil c h) }, columns-show s is)
 
-both-show : (gs hs : List Goer) → AllShow gs → AllShow hs → AllShow (gs ++ hs)
+pub both-show : (gs hs : List Goer) → AllShow gs → AllShow hs → AllShow (gs ++ hs)
 both-show [] hs a b = b
 both-show (g ∷ gs) hs a b = (a.0, both-show gs hs a.1 b)
 
@@ -105,7 +105,7 @@ module _ (node : ℕ) (s : Fields) where
   tree-shows (Tree.left_out w) h k = cc
   tree-shows Tree.missing h k = cc
 
-  trees-show : (es : List Tree) → IsTrue (list_all is_elementwise es) → IsTrue (list_all (λ e. is_some (kind_over s e)) es) → AllShow (map (tree_goer node s) es)
+  pub trees-show : (es : List Tree) → IsTrue (list_all is_elementwise es) → IsTrue (list_all (λ e. is_some (kind_over s e)) es) → AllShow (map (tree_goer node s) es)
   trees-show [] h k = tt
   trees-show (e ∷ es) h k =
       let p = both (is_elementwise e) (list_all is_elementwise es) h in

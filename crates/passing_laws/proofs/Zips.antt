@@ -11,11 +11,11 @@ use Rattle.ps_rowwise.proofs.Standing.{Operand, spread-rows}
 use Rattle.passing_laws.proofs.Goers.{AllGo, AreClean, Goer, all-stand, all_lone, cells_of, columns, ends-kept, operands, same-cells, same-lone, zip-kept, zip-loses}
 
 -- rows without a faulty cell come first
-while-clean : (r : List Cell) (rest : List (List Cell)) → row_causes r ≡ [] → rows_before_fault (r ∷ rest) ≡ cell_values r ∷ rows_before_fault rest
+pub while-clean : (r : List Cell) (rest : List (List Cell)) → row_causes r ≡ [] → rows_before_fault (r ∷ rest) ≡ cell_values r ∷ rows_before_fault rest
 while-clean r rest h =
     ap (map cell_values) (take_while-cons (λ (row : List Cell). not (is_faulty_row row)) r rest ∙ ap (λ cs. cond (not (not (is_empty cs))) (r ∷ take_while (λ (row : List Cell). not (is_faulty_row row)) rest) []) h)
 
-any-clean : (r : List Cell) (rest : List (List Cell)) → row_causes r ≡ [] → list_any is_faulty_row (r ∷ rest) ≡ list_any is_faulty_row rest
+pub any-clean : (r : List Cell) (rest : List (List Cell)) → row_causes r ≡ [] → list_any is_faulty_row (r ∷ rest) ≡ list_any is_faulty_row rest
 any-clean r rest h = ap (λ cs. not (is_empty cs) || list_any is_faulty_row rest) h
 
 no-causes : (r : List Cell) → is_faulty_row r ≡ false → row_causes r ≡ []
@@ -36,7 +36,7 @@ module _ (node : ℕ) (gs : List Goer) (all : AllGo gs) (some : all_lone gs ≡ 
   same-rows rows [] causes = refl
   same-rows rows (x ∷ xs) causes = λ i. same-cells rows causes gs x i ∷ same-rows rows xs causes i
 
-  all-cells : (rows : List (List Value)) (causes : List Cause) → (aligned false node (columns rows causes gs)).rows ≡ cells rows
+  pub all-cells : (rows : List (List Value)) (causes : List Cause) → (aligned false node (columns rows causes gs)).rows ≡ cells rows
   all-cells rows causes = spread-rows rows (not (is_empty causes)) (operands rows causes gs) (all-stand rows causes gs all) (same-lone rows causes gs ∙ some) ∙ same-rows rows rows causes
 
   pub zip-rows : (rows : List (List Value)) (causes : List Cause) → (zip_over rows causes).rows ≡ rows_before_fault (cells rows)

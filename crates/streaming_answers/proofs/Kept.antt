@@ -67,7 +67,7 @@ without_maps F (simple_projection names) h = (h.0, tt)
 without_maps F kind h = absurd h.0
 
 -- of streaming nodes a sink alone pulls
-pulls_sink : (kind : PhysicalKind) → IsStreaming kind → pulls kind ≡ true → kind ≡ in_memory_sink
+pub pulls_sink : (kind : PhysicalKind) → IsStreaming kind → pulls kind ≡ true → kind ≡ in_memory_sink
 pulls_sink in_memory_sink h e = refl
 pulls_sink (in_memory_source t) h e = absurd (let no : false ≡ true = e in cc)
 pulls_sink (independent_select es) h e = absurd (let no : false ≡ true = e in cc)

@@ -35,7 +35,7 @@ abbrev pub AllStream : Shape → Type 0
 AllStream shape = (n : ℕ) (p : PhysicalNode) → slice_get shape n ≡ Some p → IsStreaming p.kind
 
 -- no port of what isn't a node
-outside : (w : World) (n : ℕ) → slice_get w.nodes n ≡ None → ((p : Wire) → Contains (wires_of w) p → p.sender < p.receiver) → ((p : Wire) → Contains (wires_of w) p → p.receiver < length w.nodes) → PortLaw w n
+pub outside : (w : World) (n : ℕ) → slice_get w.nodes n ≡ None → ((p : Wire) → Contains (wires_of w) p → p.sender < p.receiver) → ((p : Wire) → Contains (wires_of w) p → p.receiver < length w.nodes) → PortLaw w n
 outside w n e forward inside =
     record {
       takes_means = λ t. absurd (let no : false ≡ true = sym not_taking ∙ t in cc);
@@ -49,7 +49,7 @@ outside w n e forward inside =
     past : n < length w.nodes → ⊥
     past h = let x = some_node w.nodes n h in let no : None ≡ Some x.0 = sym e ∙ x.1 in cc
 
-both_by_agreement : (a b : Bool) → a ≡ b → not (a || b) ≡ false → IsTrue (a && b)
+pub both_by_agreement : (a b : Bool) → a ≡ b → not (a || b) ≡ false → IsTrue (a && b)
 both_by_agreement true true e l = refl
 both_by_agreement true false e l = absurd (let no : true ≡ false = e in cc)
 both_by_agreement false true e l = absurd (let no : false ≡ true = e in cc)
@@ -80,7 +80,7 @@ module _ (F : Functions) (s : World) (known : Known F s) (streams : AllStream (s
       by false l = both_by_agreement (is_done p.send_state) (is_done p.receive_state) (ends_agree F s known.facts rest p c) l
 
 -- an Open without a blocker changes no pipe
-last_pipes : (s : World) (phase : ℕ) → blockers_in s ≡ [] → (after_open s phase).pipes ≡ s.pipes
+pub last_pipes : (s : World) (phase : ℕ) → blockers_in s ≡ [] → (after_open s phase).pipes ≡ s.pipes
 last_pipes s phase none = ap (λ b. (cond b (record s { ending = finished }) (with_phase s)).pipes) (ap is_empty none)
 
 abbrev DoneIfFinished : World → Type 0

@@ -29,6 +29,7 @@ pub fn streaming_runs_keep_promises()
     moves::no_run_is_stuck();
     promises::numbers_come_once();
     promises::slices_halt_sources();
+    promises::ends_are_enough();
     flight::claims_are_handed_in();
     flight::halted_nodes_stay_so();
     bounds::little_is_in_flight();

@@ -61,13 +61,13 @@ all_meant [] (T ∷ Ts) h m = absurd m
 all_meant (q ∷ qs) [] h m = absurd m
 all_meant (q ∷ qs) (T ∷ Ts) h m = let k = h 0 q refl in (meant q T k.0 k.1 m.0, all_meant qs Ts (λ i r e. h (suc i) r e) m.1)
 
-meant_there : (qs : List Pipe) (Ts : List Table) (i : ℕ) (q : Pipe) → AllMeant qs Ts → slice_get qs i ≡ Some q → (T : Table) × (slice_get Ts i ≡ Some T) × Meant q T
+pub meant_there : (qs : List Pipe) (Ts : List Table) (i : ℕ) (q : Pipe) → AllMeant qs Ts → slice_get qs i ≡ Some q → (T : Table) × (slice_get Ts i ≡ Some T) × Meant q T
 meant_there [] Ts i q h e = absurd (nothing_is q e)
 meant_there (x ∷ qs) [] i q h e = absurd h
 meant_there (x ∷ qs) (T ∷ Ts) zero q h e = let two : Some x ≡ Some q = e in let same : x ≡ q = cc in (T, refl, subst (λ z. Meant z T) same h.0)
 meant_there (x ∷ qs) (T ∷ Ts) (suc i) q h e = meant_there qs Ts i q h.1 e
 
-each_meant : (P : Table → Type 0) (qs : List Pipe) (Ts : List Table) → AllMeant qs Ts → ((i : ℕ) (q : Pipe) (T : Table) → slice_get qs i ≡ Some q → Meant q T → P T) → AllByRecursion P Ts
+pub each_meant : (P : Table → Type 0) (qs : List Pipe) (Ts : List Table) → AllMeant qs Ts → ((i : ℕ) (q : Pipe) (T : Table) → slice_get qs i ≡ Some q → Meant q T → P T) → AllByRecursion P Ts
 each_meant P [] [] h f = tt
 each_meant P [] (T ∷ Ts) h f = absurd h
 each_meant P (q ∷ qs) [] h f = absurd h
@@ -227,16 +227,16 @@ module _ (F : Functions) (w : World) (n : ℕ) (node : Node) (extend : Bool) (kn
   abbrev ss : List Fields
   ss = input_schemas (shape_of w) node.node
 
-  every : AllMeant qs Ts
+  pub every : AllMeant qs Ts
   every = all_meant qs Ts (λ i q g. (read_came F w n known i q g, read q (enters F w known.facts n i q g).0)) m
 
   -- a place of a pipe that leads to the zip
-  place_of : (q : Pipe) → Enters w n q → (k : ℕ) × (slice_get qs k ≡ Some q)
+  pub place_of : (q : Pipe) → Enters w n q → (k : ℕ) × (slice_get qs k ≡ Some q)
   place_of q c =
       at_of qs q (order_keeps (λ (a b : Pipe). nat_lt a.wire.input b.wire.input) q (kept (λ (p : Pipe). nat_eq p.wire.receiver n) w.pipes) (contains_kept (λ (p : Pipe). nat_eq p.wire.receiver n) q w.pipes c.0 (itself q.wire.receiver n c.1)))
 
   -- each input has a column
-  wide : (i : ℕ) (u : Fields) → slice_get ss i ≡ Some u → 0 < length u
+  pub wide : (i : ℕ) (u : Fields) → slice_get ss i ≡ Some u → 0 < length u
   wide i u g = by (slice_get qs i) refl
     where
       inputs : slice_get ss i ≡ option_map (λ (x : ℕ × ℕ). schema_at (slice_get (shape_of w) x.0)) (slice_get node.node.inputs i)

@@ -3,5 +3,6 @@ pub mod SourceExamples
 pub mod UnionExamples
 pub mod ZipExamples
 pub mod KeeperExamples
+pub mod GroupExamples
 pub mod JoinExamples
 pub mod OnwardExamples

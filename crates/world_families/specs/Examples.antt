@@ -1,5 +1,5 @@
 -- Small worlds of one node and its pipes, in the middle of a phase.
-use Rattle.std.specs.Prelude.{ℕ, true, false, List, [], ◌∷◌, Option, Some, None, codes, pos}
+use Rattle.std.specs.Prelude.{ℕ, Bool, true, false, List, [], ◌∷◌, Option, Some, None, codes, pos}
 use Rattle.std.proofs.Math.Facts.{leb_yes}
 use Rattle.ps_frame.specs.Tables.{Fields, Row}
 use Rattle.ps_frame.specs.Trees.{Tree}
@@ -13,7 +13,7 @@ use Rattle.ps_options.specs.declared.options.Options.{Options}
 use Rattle.ps_ports.specs.Ports.{is_ready}
 use Rattle.ps_ports.specs.declared.port_state.PortState.{PortState}
 use Rattle.ps_ports.specs.declared.port_state.PortState.TheVariants as port
-use Rattle.ps_turns.specs.Progress.{Progress, giving, taking}
+use Rattle.ps_turns.specs.Progress.{Progress, giving, spent, taking}
 use Rattle.ps_turns.specs.Tasks.{Piece, Task, computes, hands_on, keeps, probes}
 use Rattle.ps_world.specs.World.{Node, Pipe, World, running}
 
@@ -93,8 +93,14 @@ abbrev pub union_world : PortState → slots → World
 union_world first out = world (a_sender ∷ a_sender ∷ a_union ∷ []) (union_pipes first out) (piece 2 0 0 hands_on (a_schema ∷ a_schema ∷ []) ((row 1 ∷ []) ∷ []) ∷ [])
 
 -- a zip of an input of three rows and one of a single row
+abbrev pub a_zip_of : (stores : List (List (List Row))) → Node
+a_zip_of stores = node_of (zip_node false) ((0, 0) ∷ (1, 0) ∷ []) (progress_of 2 3 stores)
+
+abbrev pub all_read : List (List (List Row))
+all_read = ((row 1 ∷ []) ∷ (row 2 ∷ row 3 ∷ []) ∷ []) ∷ ((row 7 ∷ []) ∷ []) ∷ []
+
 abbrev pub a_zip : Node
-a_zip = node_of (zip_node false) ((0, 0) ∷ (1, 0) ∷ []) (progress_of 2 3 (((row 1 ∷ []) ∷ (row 2 ∷ row 3 ∷ []) ∷ []) ∷ ((row 7 ∷ []) ∷ []) ∷ []))
+a_zip = a_zip_of all_read
 
 abbrev pub long_input : Pipe
 long_input = pipe 0 2 0 port.Done (came (row 1) ∷ Some (row 2 ∷ row 3 ∷ []) ∷ []) 2
@@ -106,8 +112,14 @@ single_input send = pipe 1 2 1 send (came (row 7) ∷ []) 1
 abbrev pub zip_piece : (number : ℕ) → (first second : List Row) → Piece
 zip_piece k first second = piece 2 k k (computes (physical (zip_node false) ((0, 0) ∷ (1, 0) ∷ []))) (a_schema ∷ a_schema ∷ []) (first ∷ second ∷ [])
 
+abbrev pub zip_out : (dropped : Bool) → Pipe
+zip_out dropped = record (pipe 2 3 0 port.Ready (None ∷ None ∷ []) 0) { is_dropped = dropped }
+
+abbrev pub zip_world_of : (stores : List (List (List Row))) (dropped : Bool) → PortState → List Piece → World
+zip_world_of stores dropped single outs = world (a_sender ∷ a_sender ∷ a_zip_of stores ∷ []) (long_input ∷ single_input single ∷ zip_out dropped ∷ []) outs
+
 abbrev pub zip_world : PortState → List Piece → World
-zip_world single outs = world (a_sender ∷ a_sender ∷ a_zip ∷ []) (long_input ∷ single_input single ∷ pipe 2 3 0 port.Ready (None ∷ None ∷ []) 0 ∷ []) outs
+zip_world single outs = zip_world_of all_read false single outs
 
 abbrev pub both_cuts : List Piece
 both_cuts = zip_piece 0 (row 1 ∷ row 2 ∷ []) (row 7 ∷ []) ∷ zip_piece 1 (row 3 ∷ []) (row 7 ∷ []) ∷ []
@@ -140,6 +152,16 @@ by_a = physical (group_by_node ((codes "a", Tree.column (codes "a")) ∷ []) [])
 abbrev pub grouped_rows : List Row
 grouped_rows = row 1 ∷ row 2 ∷ row 1 ∷ []
 
+abbrev pub both_lists : List (List Row)
+both_lists = (row 1 ∷ []) ∷ (row 2 ∷ []) ∷ []
+
+-- a group-by that gave the rows of both lists, with what it kept of its one morsel
+abbrev pub a_group_by : (kept : slots) → Node
+a_group_by kept = node_of (group_by_node ((codes "a", Tree.column (codes "a")) ∷ []) []) ((0, 0) ∷ []) (record { stage = spent; sent = 2; booked = 0; stores = []; taken = kept ∷ []; made = None; lists = both_lists })
+
+abbrev pub group_world : (kept : slots) → World
+group_world kept = world (a_sender ∷ a_group_by kept ∷ []) (pipe 0 1 0 port.Done (Some grouped_rows ∷ []) 1 ∷ pipe 1 2 0 port.Done (came (row 1) ∷ came (row 2) ∷ []) 0 ∷ []) []
+
 -- a join by equal keys that probes: it kept two right rows, and took two left morsels
 abbrev pub on_a : JoinStep
 on_a = record { left_on = Tree.column (codes "a") ∷ []; right_on = Tree.column (codes "a") ∷ []; args = record { how = how.Inner; suffix = None; join_nulls = false; validation = validation.ManyToMany; slice = None } }
@@ -150,14 +172,27 @@ a_join = node_of (equi_join on_a) ((0, 0) ∷ (1, 0) ∷ []) (record { stage = g
 abbrev pub probing : (number : ℕ) → (left right : List Row) → Piece
 probing k left right = piece 2 k k (probes (physical (equi_join on_a) ((0, 0) ∷ (1, 0) ∷ [])) on_a) (a_schema ∷ a_schema ∷ []) (left ∷ right ∷ [])
 
+abbrev pub left_read : (next : ℕ) → Pipe
+left_read next = pipe 0 2 0 port.Ready (came (row 1) ∷ came (row 2) ∷ []) next
+
 abbrev pub left_input : Pipe
-left_input = pipe 0 2 0 port.Ready (came (row 1) ∷ came (row 2) ∷ []) 2
+left_input = left_read 2
 
 abbrev pub right_input : Pipe
 right_input = pipe 1 2 1 port.Done (came (row 2) ∷ came (row 3) ∷ []) 2
 
+abbrev pub join_world_of : (read : ℕ) → List Piece → World
+join_world_of read outs = world (a_sender ∷ a_sender ∷ a_join ∷ []) (left_read read ∷ right_input ∷ pipe 2 3 0 port.Ready (None ∷ None ∷ []) 0 ∷ []) outs
+
 abbrev pub join_world : List Piece → World
-join_world outs = world (a_sender ∷ a_sender ∷ a_join ∷ []) (left_input ∷ right_input ∷ pipe 2 3 0 port.Ready (None ∷ None ∷ []) 0 ∷ []) outs
+join_world outs = join_world_of 2 outs
+
+-- the same join, whose left input had no morsel, once it is spent, with what it kept of the right rows
+abbrev pub a_spent_join : (kept : slots) → Node
+a_spent_join kept = node_of (equi_join on_a) ((0, 0) ∷ (1, 0) ∷ []) (record { stage = spent; sent = 0; booked = 0; stores = []; taken = [] ∷ kept ∷ []; made = None; lists = [] })
+
+abbrev pub spent_world : (kept : slots) → World
+spent_world kept = world (a_sender ∷ a_sender ∷ a_spent_join kept ∷ []) (pipe 0 2 0 port.Done [] 0 ∷ right_input ∷ pipe 2 3 0 port.Done [] 0 ∷ []) []
 
 -- a row index that took two morsels
 abbrev pub an_index : (booked : ℕ) → Node

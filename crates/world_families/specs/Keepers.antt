@@ -16,7 +16,7 @@ use Rattle.ps_turns.specs.Tasks.{Piece, computes, gives_part, keeps}
 use Rattle.ps_world.specs.Facts.{keeps_one}
 use Rattle.ps_world.specs.World.{Node, Pipe, World, running, schemas_for}
 use Rattle.world_families.specs.Sources.{HasGivenAll, KeepsNone, cut_work}
-use Rattle.world_families.specs.Work.{AllComplete, Enters, Gives, Leaves, rows_read, rows_received, work_of}
+use Rattle.world_families.specs.Work.{AllComplete, Enters, Gives, Leaves, Work, rows_read, rows_received, work_of}
 
 -- While it takes, none of its outputs is dropped; after that it is done with its inputs.
 pub record TakesFirst (w : World) (n : ℕ) (node : Node) : Type 0 where
@@ -77,9 +77,18 @@ pub record HoldsReduce (F : Functions) (w : World) (n : ℕ) (node : Node) : Typ
 abbrev pub SplitsAll : World → ℕ → Node → Type 0
 SplitsAll w n node = AllComplete w n × IsSplit node.node (whole_tables (schemas_for w node) (rows_received w n)) w.options.partitions node.progress.lists
 
+-- all that came is kept, and each of its distinct keys stands once in the lists
+abbrev pub HasSplitAll : World → ℕ → Node → Type 0
+HasSplitAll w n node = HasKeptAll w n node × SplitsAll w n node
+
+-- what is done for a number: the groups of the keys in the list of that number
+abbrev pub IsPartWork : World → ℕ → Node → ℕ → Work → Type 0
+IsPartWork w n node k x =
+    HasSplitAll w n node × (k < length node.progress.lists) × (x ≡ record { task = gives_part node.node (get_or node.progress.lists k []); schemas = schemas_for w node; tables = rows_received w n })
+
 -- A group-by gives the rows of one list of keys after the other.
 pub record HoldsGroups (F : Functions) (w : World) (n : ℕ) (node : Node) : Type 0 where
   pub turn : TakesFirst w n node
   pub keeps_morsels : KeepsMorsels F w n node 0
-  pub has_all : IsTrue (is_giving node.progress.stage) → HasKeptAll w n node × SplitsAll w n node
-  pub gives : Gives F w n (λ k x. SplitsAll w n node × (k < length node.progress.lists) × (x ≡ record { task = gives_part node.node (get_or node.progress.lists k []); schemas = schemas_for w node; tables = rows_received w n })) (IsKeptOf w n node 0) (SplitsAll w n node × (length node.progress.lists ≤ node.progress.sent))
+  pub has_all : IsTrue (is_giving node.progress.stage) → HasSplitAll w n node
+  pub gives : Gives F w n (IsPartWork w n node) (IsKeptOf w n node 0) (HasSplitAll w n node × (length node.progress.lists ≤ node.progress.sent))

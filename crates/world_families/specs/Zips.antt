@@ -41,7 +41,8 @@ pub record HoldsZip (F : Functions) (w : World) (n : ℕ) (node : Node) (extend 
   pub up_to_booked : before node.progress.sent ≡ node.progress.booked
   pub cuts : (k : ℕ) → k < node.progress.sent → IsCut w n extend (before k) (before (k + 1))
   pub gives : Gives F w n (λ k x. (k < node.progress.sent) × (x ≡ record { task = computes node.node; schemas = schemas_for w node; tables = map (rows_in_cut extend (before k) (before (k + 1))) (pipes_in w n) })) KeepsNone (AllCut w n extend node.progress.booked)
-  -- it stores what it read, until its output is dropped
+  -- it stores what it read, until its output is dropped; then it stores nothing
   pub stores : (q : Pipe) → Enters w n q → (stored_rows (get_or node.progress.stores q.wire.input []) ≡ rows_read q) ⊎ (p : Pipe) × Leaves w n p × IsTrue p.is_dropped
+  pub lets_go : (p : Pipe) → Leaves w n p → IsTrue p.is_dropped → (i : ℕ) → stored_rows (get_or node.progress.stores i []) ≡ []
   -- in a phase it reads all inputs that aren't done
   pub beside : IsWorking w n → (q : Pipe) → Enters w n q → IsTrue (q.in_phase || is_done q.wire.send_state)

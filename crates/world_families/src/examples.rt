@@ -4,9 +4,9 @@ ghost use Rattle.ps_frame.specs.Functions.{Functions};
 ghost use Rattle.ps_ports.specs.declared.port_state.PortState.TheVariants as port;
 ghost use Rattle.ps_turns.specs.Keys.{IsSplit};
 ghost use Rattle.ps_meaning.specs.Cases.{rows_table};
-ghost use Rattle.world_families.specs.Examples.{a_join, a_reduce, a_schema, a_source, a_union, a_zip, an_end, an_index, both_cuts, by_a, came, end_world, grouped_rows, handing, index_world, indexing, join_world, keeping, long_input, on_a, overlapping, ports_world, probing, reduce_world, row, single_input, source_world, three_rows, union_world, zip_world};
+ghost use Rattle.world_families.specs.Examples.{a_group_by, a_join, a_reduce, a_schema, a_source, a_spent_join, a_union, a_zip, a_zip_of, all_read, an_end, an_index, both_cuts, by_a, came, end_world, group_world, grouped_rows, handing, index_world, indexing, join_world, join_world_of, keeping, long_input, on_a, overlapping, ports_world, probing, reduce_world, row, single_input, source_world, spent_world, three_rows, union_world, zip_world, zip_world_of};
 ghost use Rattle.world_families.specs.Joins.{HoldsJoin};
-ghost use Rattle.world_families.specs.Keepers.{HoldsMade, KeepsMorsels};
+ghost use Rattle.world_families.specs.Keepers.{HoldsGroups, HoldsMade, KeepsMorsels};
 ghost use Rattle.world_families.specs.Onward.{HoldsPassing, HoldsPorts};
 ghost use Rattle.world_families.specs.Sources.{HoldsSource};
 ghost use Rattle.world_families.specs.Unions.{HoldsUnion};
@@ -28,10 +28,12 @@ pub fn unions_go_input_by_input()
     ensures not_the_other_way { (F : Functions) → ¬ HoldsUnion F (union_world port.Done (came (row 2) ∷ None ∷ [])) 2 a_union }
 {}
 
-/// Cuts of a zip lie side by side, and an input with one row gives it to each. An input that isn't complete yet broadcasts nothing.
+/// Cuts of a zip lie side by side, and an input with one row gives it to each. An input that isn't complete yet broadcasts nothing. A zip whose output is dropped stores nothing any more.
 pub fn zips_cut_side_by_side()
     ensures side_by_side { (F : Functions) → HoldsZip F (zip_world port.Done both_cuts) 2 a_zip false }
     ensures not_overlapping { (F : Functions) → ¬ HoldsZip F (zip_world port.Done overlapping) 2 a_zip false }
+    ensures lets_go { (F : Functions) → HoldsZip F (zip_world_of ([] ∷ [] ∷ []) true port.Done both_cuts) 2 (a_zip_of ([] ∷ [] ∷ [])) false }
+    ensures not_once_dropped { (F : Functions) → ¬ HoldsZip F (zip_world_of all_read true port.Done both_cuts) 2 (a_zip_of all_read) false }
     ensures not_before_it_is_complete { (F : Functions) → ¬ HoldsZip F (zip_world port.Ready both_cuts) 2 a_zip false }
     ensures single_row { rows_in_cut false 2 3 (single_input port.Done) ≡ row 7 ∷ [] }
     ensures not_with_extension { rows_in_cut true 2 3 (single_input port.Done) ≡ [] }
@@ -57,10 +59,23 @@ pub fn lists_split_keys()
     ensures not_in_two { ¬ IsSplit by_a (rows_table a_schema grouped_rows ∷ []) 2 ((row 1 ∷ []) ∷ (row 1 ∷ row 2 ∷ []) ∷ []) }
 {}
 
-/// While a join probes, each left morsel goes over all right rows, and not over a part of them.
+/// A group-by that gave the rows of its two lists still has all that it kept. Without that nothing would tell that the rows behind a fault in its keys weren't left out.
+pub fn group_bys_keep_what_they_gave()
+    ensures all_kept { (F : Functions) → HoldsGroups F (group_world (Some grouped_rows ∷ [])) 1 (a_group_by (Some grouped_rows ∷ [])) }
+    ensures not_forgotten { (F : Functions) → ¬ HoldsGroups F (group_world []) 1 (a_group_by []) }
+{}
+
+/// While a join probes, each left morsel that it took goes over all right rows, and not over a part of them.
 pub fn joins_probe_all_right_rows()
     ensures all_rows { (F : Functions) → HoldsJoin F (join_world (probing 1 (row 2 ∷ []) (row 2 ∷ row 3 ∷ []) ∷ probing 0 (row 1 ∷ []) (row 2 ∷ row 3 ∷ []) ∷ [])) 2 a_join on_a }
     ensures not_a_part { (F : Functions) → ¬ HoldsJoin F (join_world (probing 1 (row 2 ∷ []) (row 2 ∷ []) ∷ [])) 2 a_join on_a }
+    ensures not_before_it_is_taken { (F : Functions) → ¬ HoldsJoin F (join_world_of 1 (probing 1 (row 2 ∷ []) (row 2 ∷ row 3 ∷ []) ∷ [])) 2 a_join on_a }
+{}
+
+/// A join that is spent still has all right rows that it kept, also where no left row came.
+pub fn joins_keep_what_they_built()
+    ensures all_kept { (F : Functions) → HoldsJoin F (spent_world (came (row 2) ∷ came (row 3) ∷ [])) 2 (a_spent_join (came (row 2) ∷ came (row 3) ∷ [])) on_a }
+    ensures not_forgotten { (F : Functions) → ¬ HoldsJoin F (spent_world []) 2 (a_spent_join []) on_a }
 {}
 
 /// A row index numbers each morsel behind the rows of those before, and has booked what it took.

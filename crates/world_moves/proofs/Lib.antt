@@ -4,4 +4,4 @@ mod Reached
 mod Takes
 mod ZipMoves
 mod NodeMoves
-mod GoesOn
+pub mod GoesOn

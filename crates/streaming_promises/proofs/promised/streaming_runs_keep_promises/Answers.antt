@@ -13,6 +13,7 @@ returns c = λ F shape o w laws sound streams r.
       drops = c.slices_halt_sources.ensures.drops F w;
       stays_halted = c.halted_nodes_stay_so.ensures F shape o w sound r;
       bounded = c.little_is_in_flight.ensures F shape o w sound r;
+      stores_few = c.ends_are_enough.ensures.few F shape o w r;
       piece_results = λ q cq. results w q r cq;
       run_ends = c.runs_end.ensures F shape o w sound r;
       reaches_end = c.ends_are_reached.ensures F shape o w sound (c.no_run_is_stuck.ensures F shape o sound) results r;

@@ -1,0 +1,14 @@
+pub mod GroupAnswers
+pub mod GroupFronts
+pub mod GroupHolds
+pub mod GroupTurned
+pub mod Groups
+pub mod Morsels
+pub mod OneInput
+pub mod Quiet
+pub mod ReduceAnswers
+pub mod ReduceHolds
+pub mod ReduceTurned
+pub mod Reduces
+pub mod Whole
+pub mod WorldExamples

@@ -1,0 +1,17 @@
+pub mod JoinInputs
+pub mod JoinLaw
+pub mod JoinPorts
+pub mod JoinPieces
+pub mod Held
+pub mod JoinClaimed
+pub mod JoinClaims
+pub mod JoinGoes
+pub mod JoinKept
+pub mod JoinPartials
+pub mod JoinQuiet
+pub mod JoinRun
+pub mod JoinSees
+pub mod JoinStill
+pub mod JoinTurns
+pub mod SameProgress
+pub mod WorldExamples

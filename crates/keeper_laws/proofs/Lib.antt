@@ -1,0 +1,12 @@
+pub mod Made
+pub mod MadeFaults
+pub mod MadeLaw
+pub mod MadeReached
+pub mod MadeSteps
+pub mod MadeTables
+pub mod MadeTurned
+pub mod Ports
+pub mod Says
+pub mod Starts
+pub mod Turn
+pub mod Turned

@@ -1,0 +1,4 @@
+pub mod Together
+pub mod EachKind
+pub mod AllPromises
+pub mod EachNode
