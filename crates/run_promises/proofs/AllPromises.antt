@@ -1,13 +1,13 @@
 -- From the laws of all kinds: every reached world keeps all promises.
-use Rattle.std.proofs.Common.{◌≡◌, ℕ, Some, refl, sym, ap, subst}
-use Rattle.std.specs.Prelude.{Contains, slice_get}
+use Rattle.std.proofs.Common.{◌≡◌, ℕ, Some, sym, subst}
+use Rattle.std.specs.Prelude.{slice_get}
 use Rattle.ps_frame.specs.Functions.{Functions}
 use Rattle.ps_frame.specs.Tables.{Table}
-use Rattle.ps_meaning.specs.Shape.{IsPhysicalChoice, PhysicalKind, PhysicalNode, Shape, in_memory_sink}
+use Rattle.ps_meaning.specs.Shape.{IsPhysicalChoice, PhysicalKind, PhysicalNode, Shape}
 use Rattle.ps_meaning.specs.Sound.{IsSound}
 use Rattle.ps_options.specs.declared.options.Options.{Options}
 use Rattle.ps_world.specs.Opening.{Reaches, opening}
-use Rattle.ps_world.specs.World.{Node, World}
+use Rattle.ps_world.specs.World.{World}
 use Rattle.world_bounds.proofs.Flight.{is_bounded_flight}
 use Rattle.world_bounds.proofs.Givers.{reached_givers}
 use Rattle.world_bounds.proofs.Rooms.{reached_room}

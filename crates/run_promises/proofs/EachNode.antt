@@ -6,7 +6,7 @@ use Rattle.ps_meaning.specs.Shape.{Shape}
 use Rattle.ps_meaning.specs.Sound.{IsSound}
 use Rattle.ps_options.specs.declared.options.Options.{Options}
 use Rattle.ps_world.specs.Opening.{Reaches}
-use Rattle.ps_world.specs.World.{Node, World, shape_of}
+use Rattle.ps_world.specs.World.{World, shape_of}
 use Rattle.world_laws.proofs.Answered.{in_shape}
 use Rattle.world_families.specs.Holds.{Holds, HoldsAt}
 use Rattle.family_keeps.proofs.Served.{node_holds}
