@@ -4,8 +4,7 @@ ghost use Rattle.ps_frame.specs.Tables.{Frame};
 ghost use Rattle.ps_meaning.specs.declared.map.MapKind.{MapKind};
 ghost use Rattle.node_trials.specs.MapsTested.{tested_entry, tested_nodes};
 
-use crate::cases::on_lines;
-use crate::trial::lines;
+use crate::lines::lines;
 use ps_copies::try_clone::TryClone;
 use ps_frame::column::Column;
 use ps_frame::expr::{AExpr, IRAggExpr};
@@ -248,8 +247,7 @@ fn maps_give_what_their_nodes_do(rt: HostRuntime) -> Result<(), Fail> {
             return Err(Fail::from("a map without an answer"));
         };
         let df = mapped(alloc, &kind(alloc, name)?)?;
-        let (given, wanted) = (lines(alloc, &df)?, on_lines(alloc, wanted)?);
-        assert_eq!(rt; given.as_str(), wanted.as_str(), "of {name}");
+        assert_eq!(rt; lines(alloc, &df)?.as_str(), wanted, "of {name}");
     }
     Ok(())
 }
