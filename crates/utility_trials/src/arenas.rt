@@ -13,20 +13,20 @@ fn keeps_entries(rt: HostRuntime) -> Result<(), Fail> {
     let mut arena: Arena<u32> = Arena::with_capacity(alloc, 4)?;
     let first = arena.add(7)?;
     let second = arena.duplicate(first)?;
-    assert_eq!(rt; arena.len(), 2);
+    assert!(rt; arena.len() == 2);
     assert!(rt; second.0 < arena.len());
-    assert_eq!(rt; *arena.get(second), 7);
+    assert!(rt; *arena.get(second) == 7);
     *arena.get_mut(second) = 9;
-    assert_eq!(rt; *arena.get(second), 9);
+    assert!(rt; *arena.get(second) == 9);
     write_pair(&mut arena, first, second);
-    assert_eq!(rt; *arena.get(first), 3);
-    assert_eq!(rt; *arena.get(second), 4);
+    assert!(rt; *arena.get(first) == 3);
+    assert!(rt; *arena.get(second) == 4);
     let (later, earlier) = arena.get_pair_mut(second, first);
     (*later, *earlier) = (2, 1);
-    assert_eq!(rt; arena.pop(), Some(2));
-    assert_eq!(rt; arena.pop(), Some(1));
+    assert!(rt; arena.pop() == Some(2));
+    assert!(rt; arena.pop() == Some(1));
     arena.clear();
-    assert_eq!(rt; arena.version(), 1);
+    assert!(rt; arena.version() == 1);
     assert!(rt; arena.is_empty());
     Ok(())
 }
@@ -48,10 +48,10 @@ fn numbers_its_entries(rt: HostRuntime) -> Result<(), Fail> {
     let mut arena = Arena::new(rt.alloc());
     let first = arena.add(5u32)?;
     let second = arena.duplicate(first)?;
-    assert_eq!(rt; first, Node(0));
-    assert_eq!(rt; second, Node(1));
-    assert_eq!(rt; arena.last_node(), Some(Node(1)));
-    assert_eq!(rt; Node::default(), Node(usize::MAX));
+    assert!(rt; first == Node(0));
+    assert!(rt; second == Node(1));
+    assert!(rt; arena.last_node() == Some(Node(1)));
+    assert!(rt; Node::default() == Node(usize::MAX));
     Ok(())
 }
 
@@ -63,10 +63,10 @@ fn copies_all_entries(rt: HostRuntime) -> Result<(), Fail> {
     arena.clear();
     arena.add(6)?;
     let mut copy = arena.try_clone(alloc)?;
-    assert_eq!(rt; copy.version(), 1);
-    assert_eq!(rt; copy.entries_mut().len(), 1);
-    assert_eq!(rt; copy.pop(), Some(6));
-    assert_eq!(rt; arena.len(), 1);
+    assert!(rt; copy.version() == 1);
+    assert!(rt; copy.entries_mut().len() == 1);
+    assert!(rt; copy.pop() == Some(6));
+    assert!(rt; arena.len() == 1);
     Ok(())
 }
 
@@ -76,10 +76,10 @@ fn changes_places(rt: HostRuntime) -> Result<(), Fail> {
     let first = arena.add(8u32)?;
     let second = arena.add(2)?;
     arena.swap(first, second);
-    assert_eq!(rt; *arena.get_unchecked(second), 8);
-    assert_eq!(rt; arena.replace(first, 6), 2);
-    assert_eq!(rt; arena.take(first), 6);
-    assert_eq!(rt; *arena.get(first), 0);
+    assert!(rt; *arena.get_unchecked(second) == 8);
+    assert!(rt; arena.replace(first, 6) == 2);
+    assert!(rt; arena.take(first) == 6);
+    assert!(rt; *arena.get(first) == 0);
     Ok(())
 }
 
@@ -88,12 +88,12 @@ fn replaces_by_answers(rt: HostRuntime) -> Result<(), Fail> {
     let mut arena = Arena::new(rt.alloc());
     let n = arena.add(8u32)?;
     arena.replace_with(n, |x| x / 2);
-    assert_eq!(rt; *arena.get(n), 4);
+    assert!(rt; *arena.get(n) == 4);
     arena.try_replace_with(n, |x| Ok(x / 2))?;
-    assert_eq!(rt; *arena.get(n), 2);
+    assert!(rt; *arena.get(n) == 2);
     let refused = arena.try_replace_with(n, |_x| Err(PolarsUtilsError::SeekOutOfRange));
     assert!(rt; matches!(refused, Err(PolarsUtilsError::SeekOutOfRange)));
-    assert_eq!(rt; *arena.get(n), 0);
+    assert!(rt; *arena.get(n) == 0);
     Ok(())
 }
 
@@ -110,7 +110,7 @@ fn two_entries(alloc: Global, first: u32, second: u32) -> pu_base::Result<Arena<
 #[test]
 fn has_the_room_that_was_asked_for(rt: HostRuntime) -> Result<(), Fail> {
     let arena = two_entries(rt.alloc(), 3, 4)?;
-    assert_eq!(rt; *arena.get(Node(0)), 3);
-    assert_eq!(rt; *arena.get(Node(1)), 4);
+    assert!(rt; *arena.get(Node(0)) == 3);
+    assert!(rt; *arena.get(Node(1)) == 4);
     Ok(())
 }

@@ -27,11 +27,11 @@ fn two_entries(alloc: Global) -> Result<BytesIndexMap<u32>, Fail> {
 #[test]
 fn a_key_under_two_hashes_stands_twice(rt: HostRuntime) -> Result<(), Fail> {
     let map = two_entries(rt.alloc())?;
-    assert_eq!(rt; map.len(), 2);
+    assert!(rt; map.len() == 2);
     assert!(rt; !map.is_empty());
-    assert_eq!(rt; map.get(1, b"k").copied(), Some(10));
-    assert_eq!(rt; map.get(3, b"k").copied(), None);
-    assert_eq!(rt; map.get(1, b"kk").copied(), None);
+    assert!(rt; map.get(1, b"k").copied() == Some(10));
+    assert!(rt; map.get(3, b"k").copied() == None);
+    assert!(rt; map.get(1, b"kk").copied() == None);
     can_be_shared(&map);
     Ok(())
 }
@@ -41,9 +41,9 @@ fn entries_by_their_numbers(rt: HostRuntime) -> Result<(), Fail> {
     let map = two_entries(rt.alloc())?;
     assert!(rt; map.get_index(2).is_none());
     let (hash, key, value) = map.get_index(1).ok_or("no entry")?;
-    assert_eq!(rt; hash, 2);
-    assert_eq!(rt; key, b"k".as_slice());
-    assert_eq!(rt; *value, 20);
+    assert!(rt; hash == 2);
+    assert!(rt; key == b"k".as_slice());
+    assert!(rt; *value == 20);
     Ok(())
 }
 
@@ -51,10 +51,10 @@ fn entries_by_their_numbers(rt: HostRuntime) -> Result<(), Fail> {
 fn an_entry_is_written(rt: HostRuntime) -> Result<(), Fail> {
     let mut map = two_entries(rt.alloc())?;
     if let Entry::Occupied(entry) = map.entry(1, b"k".as_slice()) {
-        assert_eq!(rt; entry.index(), 0);
+        assert!(rt; entry.index() == 0);
         *entry.into_mut() = 11;
     }
-    assert_eq!(rt; map.get(1, b"k").copied(), Some(11));
+    assert!(rt; map.get(1, b"k").copied() == Some(11));
     Ok(())
 }
 
@@ -62,13 +62,13 @@ fn an_entry_is_written(rt: HostRuntime) -> Result<(), Fail> {
 fn iterators_keep_the_order_of_insertion(rt: HostRuntime) -> Result<(), Fail> {
     let map = two_entries(rt.alloc())?;
     let mut values = map.iter_values();
-    assert_eq!(rt; values.next().copied(), Some(10));
-    assert_eq!(rt; values.next().copied(), Some(20));
+    assert!(rt; values.next().copied() == Some(10));
+    assert!(rt; values.next().copied() == Some(20));
     let mut hashes = 0u64;
     for (hash, _) in map.iter_hash_keys() {
         hashes = hashes.wrapping_mul(10).wrapping_add(hash);
     }
-    assert_eq!(rt; hashes, 12);
+    assert!(rt; hashes == 12);
     Ok(())
 }
 
@@ -80,9 +80,9 @@ fn many_keys_are_found(rt: HostRuntime) {
         let hash = u64::from(i - i % 5 % 2).wrapping_mul(0x9e37_79b9_7f4a_7c15);
         assert!(rt; put(rt.alloc(), &mut map, hash, i.to_le_bytes().as_slice(), i));
     }
-    assert_eq!(rt; map.len(), 300_000);
+    assert!(rt; map.len() == 300_000);
     for i in 0..300_000u32 {
         let hash = u64::from(i - i % 5 % 2).wrapping_mul(0x9e37_79b9_7f4a_7c15);
-        assert_eq!(rt; map.get(hash, i.to_le_bytes().as_slice()).copied(), Some(i));
+        assert!(rt; map.get(hash, i.to_le_bytes().as_slice()).copied() == Some(i));
     }
 }

@@ -24,10 +24,10 @@ fn a_cache_of_the_least_size(rt: HostRuntime) -> Result<(), Fail> {
     let mut cache = FastFixedCache::<u32, u32>::new(rt.alloc(), 0)?;
     remember(&mut cache, 5, 1);
     remember(&mut cache, 5, 2);
-    assert_eq!(rt; remembered(&mut cache, 5), Some(2));
-    assert_eq!(rt; remembered(&mut cache, 6), None);
+    assert!(rt; remembered(&mut cache, 5) == Some(2));
+    assert!(rt; remembered(&mut cache, 6) == None);
     replace(&mut cache, 5, 3);
-    assert_eq!(rt; remembered(&mut cache, 5), Some(3));
+    assert!(rt; remembered(&mut cache, 5) == Some(3));
     can_be_shared(&cache);
     Ok(())
 }
@@ -37,7 +37,7 @@ fn a_cloned_cache_finds_the_same(rt: HostRuntime) -> Result<(), Fail> {
     let mut cache = FastFixedCache::<u32, u32>::new(rt.alloc(), 0)?;
     remember(&mut cache, 5, 1);
     let mut copy = cache.try_clone(rt.alloc())?;
-    assert_eq!(rt; remembered(&mut copy, 5), Some(1));
+    assert!(rt; remembered(&mut copy, 5) == Some(1));
     Ok(())
 }
 
@@ -63,13 +63,13 @@ fn small(cache: &mut FastFixedCache<u32, u32>, key: u32) -> Option<Result<u32, c
 fn a_cache_that_makes_what_it_lacks(rt: HostRuntime) -> Result<(), Fail> {
     let mut cache = FastFixedCache::<u32, u32>::new(rt.alloc(), 0)?;
     remember(&mut cache, 5, 1);
-    assert_eq!(rt; doubled(&mut cache, 5), Some(1));
-    assert_eq!(rt; doubled(&mut cache, 6), Some(12));
-    assert_eq!(rt; remembered(&mut cache, 6), Some(12));
-    assert_eq!(rt; small(&mut cache, 6), Some(Ok(12)));
-    assert_eq!(rt; small(&mut cache, 7), Some(Ok(7)));
-    assert_eq!(rt; small(&mut cache, 11), Some(Err('l')));
-    assert_eq!(rt; remembered(&mut cache, 11), None);
+    assert!(rt; doubled(&mut cache, 5) == Some(1));
+    assert!(rt; doubled(&mut cache, 6) == Some(12));
+    assert!(rt; remembered(&mut cache, 6) == Some(12));
+    assert!(rt; small(&mut cache, 6) == Some(Ok(12)));
+    assert!(rt; small(&mut cache, 7) == Some(Ok(7)));
+    assert!(rt; small(&mut cache, 11) == Some(Err('l')));
+    assert!(rt; remembered(&mut cache, 11) == None);
     Ok(())
 }
 
@@ -78,16 +78,16 @@ fn a_full_cache_holds_what_its_places_take(rt: HostRuntime) -> Result<(), Fail> 
     let mut cache = FastFixedCache::<u32, u32>::new(rt.alloc(), 0)?;
     for key in 0..1000 {
         remember(&mut cache, key, key + 1);
-        assert_eq!(rt; remembered(&mut cache, key), Some(key + 1));
+        assert!(rt; remembered(&mut cache, key) == Some(key + 1));
     }
     let mut held = 0u32;
     for key in 0..1000 {
         if let Some(value) = remembered(&mut cache, key) {
-            assert_eq!(rt; value, key + 1);
+            assert!(rt; value == key + 1);
             held = held.wrapping_add(1);
         }
     }
-    assert_eq!(rt; held, 16);
+    assert!(rt; held == 16);
     Ok(())
 }
 
@@ -119,14 +119,14 @@ fn the_older_of_two_entries_is_pushed_out(rt: HostRuntime) -> Result<(), Fail> {
     let mut cache = FastFixedCache::<u32, u32>::new(rt.alloc(), 16)?;
     remember(&mut cache, keys[0], 10);
     remember(&mut cache, keys[1], 11);
-    assert_eq!(rt; remembered(&mut cache, keys[0]), Some(10));
+    assert!(rt; remembered(&mut cache, keys[0]) == Some(10));
     remember(&mut cache, keys[2], 12);
-    assert_eq!(rt; remembered(&mut cache, keys[1]), None);
-    assert_eq!(rt; remembered(&mut cache, keys[0]), Some(10));
-    assert_eq!(rt; remembered(&mut cache, keys[2]), Some(12));
+    assert!(rt; remembered(&mut cache, keys[1]) == None);
+    assert!(rt; remembered(&mut cache, keys[0]) == Some(10));
+    assert!(rt; remembered(&mut cache, keys[2]) == Some(12));
     remember(&mut cache, keys[3], 13);
-    assert_eq!(rt; remembered(&mut cache, keys[0]), None);
-    assert_eq!(rt; remembered(&mut cache, keys[2]), Some(12));
-    assert_eq!(rt; remembered(&mut cache, keys[3]), Some(13));
+    assert!(rt; remembered(&mut cache, keys[0]) == None);
+    assert!(rt; remembered(&mut cache, keys[2]) == Some(12));
+    assert!(rt; remembered(&mut cache, keys[3]) == Some(13));
     Ok(())
 }

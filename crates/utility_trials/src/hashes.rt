@@ -14,31 +14,28 @@ fn dirty<T: DirtyHash>(value: &T) -> u64 {
 
 #[test]
 fn hashes_and_partitions(rt: HostRuntime) -> Result<(), Fail> {
-    assert_eq!(rt; folded_multiply(u64::MAX, u64::MAX), u64::MAX);
-    assert_eq!(rt; _boost_hash_combine(0, 0), 0x9e3779b9);
-    assert_eq!(rt; _boost_hash_combine(12345, 67890), 0x9e44e34e);
-    assert_eq!(rt; 1u64.dirty_hash(), 0x55fbfd6bfc5458e9);
-    assert_eq!(rt; dirty(&-1i8), 0xaa04029403aba717);
-    assert_eq!(rt; dirty(&-3i128), 0xfe0c07bc0b02f544);
+    assert!(rt; folded_multiply(u64::MAX, u64::MAX) == u64::MAX);
+    assert!(rt; _boost_hash_combine(0, 0) == 0x9e3779b9);
+    assert!(rt; _boost_hash_combine(12345, 67890) == 0x9e44e34e);
+    assert!(rt; 1u64.dirty_hash() == 0x55fbfd6bfc5458e9);
+    assert!(rt; dirty(&-1i8) == 0xaa04029403aba717);
+    assert!(rt; dirty(&-3i128) == 0xfe0c07bc0b02f544);
     assert!(rt;
         dirty(&None::<u8>) == 0
             && dirty(&Some(1u8)) == dirty(&&1u64)
             && dirty(&TotalOrdWrap(1u8)) == dirty(&1i64)
     );
     for (h, want) in [(0, 0), (1 << 63, 2), (u64::MAX, 3)] {
-        assert_eq!(rt; hash_to_partition(h, 4), want);
+        assert!(rt; hash_to_partition(h, 4) == want);
     }
-    assert_eq!(rt; hash_to_partition(9, 0), 0);
-    assert_eq!(rt; HashPartitioner::new(7, 42).hash_to_partition(1), 0);
-    assert_eq!(rt; HashPartitioner::new(7, 42).hash_to_partition(2), 1);
+    assert!(rt; hash_to_partition(9, 0) == 0);
+    assert!(rt; HashPartitioner::new(7, 42).hash_to_partition(1) == 0);
+    assert!(rt; HashPartitioner::new(7, 42).hash_to_partition(2) == 1);
     let thousand = HashPartitioner::new(1000, 3);
     assert!(rt;
         thousand.clone()?.hash_to_partition(12345) == 802 && thousand.num_partitions() == 1000
     );
-    assert_eq!(rt;
-        HashPartitioner::new(16, u64::MAX).hash_to_partition(1 << 63),
-        8
-    );
+    assert!(rt; HashPartitioner::new(16, u64::MAX).hash_to_partition(1 << 63) == 8);
     let bytes: &[u8] = b"ab";
     let (a, b) = (BytesHash::new(Some(bytes), 5), BytesHash::new(None, 5));
     assert!(rt;
@@ -54,10 +51,7 @@ fn hashes_and_partitions(rt: HostRuntime) -> Result<(), Fail> {
 #[test]
 fn products_without_carry(rt: HostRuntime) {
     assert!(rt; clmul64(3, 3) == 5 && portable_clmul64(3, 3) == 5);
-    assert_eq!(rt;
-        clmul64(0x9e3779b97f4a7c15, 0xdeadbeefcafebabe),
-        0x67375cf4b68f53a6
-    );
+    assert!(rt; clmul64(0x9e3779b97f4a7c15, 0xdeadbeefcafebabe) == 0x67375cf4b68f53a6);
     assert!(rt; prefix_xorsum(1) == u64::MAX ^ 1 && portable_prefix_xorsum(1) == u64::MAX ^ 1);
     assert!(rt; prefix_xorsum_inclusive(5) == 3 && portable_prefix_xorsum_inclusive(5) == 3);
 }

@@ -15,16 +15,13 @@ fn names(rt: HostRuntime) -> Result<(), Fail> {
     assert!(rt; b.eq_str("b") && !b.eq_str("B") && hashed(&b) == hashed(&"b"));
     assert!(rt; PlSmallStr::empty(alloc).as_str().is_empty() && AsStr::as_str(&b) == "b");
     let both = PlSmallStr::concat(alloc, vec![in alloc; a, b]?.as_slice())?;
-    assert_eq!(rt; both.as_bytes(), [97, 34, 98].as_slice());
-    assert_eq!(rt;
-        format!(in alloc; "{both} {both:?}")?.as_str(),
-        "a\"b \"a\\\"b\""
-    );
-    assert_eq!(rt;
+    assert!(rt; both.as_bytes() == [97, 34, 98].as_slice());
+    assert!(rt; format!(in alloc; "{both} {both:?}")?.as_str() == "a\"b \"a\\\"b\"");
+    assert!(rt;
         format_pl_smallstr!(alloc, "{}-{both}", 1)?
             .into_string()
-            .as_str(),
-        "1-a\"b"
+            .as_str()
+            == "1-a\"b"
     );
     let (zero, one) = (Some(0u8), None::<u8>);
     assert!(rt;
@@ -39,21 +36,19 @@ fn errors(rt: HostRuntime) -> Result<(), Fail> {
     let alloc = rt.alloc();
     let out = PolarsUtilsError::OutOfBounds { index: 3, len: 2 };
     let own = PolarsUtilsError::ComputeError(PlSmallStr::from_str(alloc, "no")?);
-    assert_eq!(rt;
-        format!(in alloc; "{out}")?.as_str(),
-        "index 3 is out of bounds for a length of 2"
+    assert!(rt;
+        format!(in alloc; "{out}")?.as_str() == "index 3 is out of bounds for a length of 2"
     );
-    assert_eq!(rt;
-        format!(in alloc; "{out:?} {own:?}")?.as_str(),
-        "OutOfBounds { index: 3, len: 2 } ComputeError(\"no\")"
+    assert!(rt;
+        format!(in alloc; "{out:?} {own:?}")?.as_str()
+            == "OutOfBounds { index: 3, len: 2 } ComputeError(\"no\")"
     );
-    assert_eq!(rt;
-        format!(in alloc; "{own} {}", PolarsUtilsError::OutOfMemory)?.as_str(),
-        "no out of memory"
+    assert!(rt;
+        format!(in alloc; "{own} {}", PolarsUtilsError::OutOfMemory)?.as_str() == "no out of memory"
     );
-    assert_eq!(rt;
-        format!(in alloc; "{}", PolarsUtilsError::SeekOutOfRange)?.as_str(),
-        "the position is out of range"
+    assert!(rt;
+        format!(in alloc; "{}", PolarsUtilsError::SeekOutOfRange)?.as_str()
+            == "the position is out of range"
     );
     Ok(())
 }

@@ -14,9 +14,9 @@ fn nulls_and_lengths(rt: HostRuntime) {
     assert!(rt; None::<u8>.is_null() && !Some(1u8).is_null() && Option::<u8>::HAS_NULLS);
     assert!(rt; <&Option<u8>>::HAS_NULLS && <&Option<u8>>::nullable() && !u8::HAS_NULLS);
     assert!(rt; TotalOrdWrap(None::<u8>).is_null() && (&None::<u8>).is_null());
-    assert_eq!(rt; holds(Some(4u8)), 4);
-    assert_eq!(rt; holds(TotalOrdWrap(5u8)), 5);
-    assert_eq!(rt; *holds(&6u8), 6);
+    assert!(rt; holds(Some(4u8)) == 4);
+    assert!(rt; holds(TotalOrdWrap(5u8)) == 5);
+    assert!(rt; *holds(&6u8) == 6);
     let bytes: &[u8] = b"ab";
     assert!(rt; BytesHash::new(None, 1).is_null() && !BytesHash::new(Some(bytes), 1).is_null());
     assert!(rt; NullCount::null_count(&bytes) == 0 && NullCount::null_count(&&bytes) == 0);

@@ -46,7 +46,7 @@ fn orders_and_hashes(rt: HostRuntime) -> Result<(), Fail> {
         String::from_str(rt.alloc(), "b")?,
     );
     assert!(rt; is_below_and_hashes(&a, &b));
-    assert_eq!(rt; string_to_total_ord(rt.alloc(), &a)?.as_str(), "a");
+    assert!(rt; string_to_total_ord(rt.alloc(), &a)?.as_str() == "a");
     Ok(())
 }
 
@@ -62,7 +62,7 @@ fn orders_options_pairs_and_wraps(rt: HostRuntime) {
     assert!(rt; low < high && low == low && low.cmp(&high).is_lt());
     assert!(rt; hashed(&low) == written(&Some(1u8)));
     assert!(rt; Priority(1u8, 5u8) == Priority(1, 6) && Priority(1u8, 9u8) < Priority(2, 0));
-    assert_eq!(rt; peeled(&Some(7u32)), Some(7));
-    assert_eq!(rt; peeled(&&7u32), 7);
-    assert_eq!(rt; peeled(&"name"), "name");
+    assert!(rt; peeled(&Some(7u32)) == Some(7));
+    assert!(rt; peeled(&&7u32) == 7);
+    assert!(rt; peeled(&"name") == "name");
 }

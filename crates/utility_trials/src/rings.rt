@@ -8,19 +8,19 @@ use std::test::Fail;
 fn goes_round(rt: HostRuntime) -> Result<(), Fail> {
     let alloc = rt.alloc();
     let mut ring: FixedRingBuffer<u32> = FixedRingBuffer::new(alloc, 3)?;
-    assert_eq!(rt; ring.push(1), Some(()));
-    assert_eq!(rt; ring.push(2), Some(()));
-    assert_eq!(rt; ring.push(3), Some(()));
-    assert_eq!(rt; ring.push(4), None);
-    assert_eq!(rt; ring.pop_front(), Some(1));
-    assert_eq!(rt; ring.push(4), Some(()));
+    assert!(rt; ring.push(1) == Some(()));
+    assert!(rt; ring.push(2) == Some(()));
+    assert!(rt; ring.push(3) == Some(()));
+    assert!(rt; ring.push(4) == None);
+    assert!(rt; ring.pop_front() == Some(1));
+    assert!(rt; ring.push(4) == Some(()));
     let mut items = Vec::new(alloc);
     let (front, back) = ring.as_slices();
     items.extend_from_slice(front)?;
     items.extend_from_slice(back)?;
-    assert_eq!(rt; items.as_slice(), [2, 3, 4].as_slice());
-    assert_eq!(rt; ring.pop_front(), Some(2));
-    assert_eq!(rt; ring.fill_repeat(9, 5), 1);
+    assert!(rt; items.as_slice() == [2, 3, 4].as_slice());
+    assert!(rt; ring.pop_front() == Some(2));
+    assert!(rt; ring.fill_repeat(9, 5) == 1);
     can_be_shared(&ring);
     Ok(())
 }
@@ -29,10 +29,10 @@ fn goes_round(rt: HostRuntime) -> Result<(), Fail> {
 fn counts_its_room(rt: HostRuntime) -> Result<(), Fail> {
     let mut ring: FixedRingBuffer<u32> = FixedRingBuffer::new(rt.alloc(), 3)?;
     assert!(rt; ring.is_empty());
-    assert_eq!(rt; ring.fill_repeat(9, 2), 2);
-    assert_eq!(rt; ring.len(), 2);
-    assert_eq!(rt; ring.remaining_capacity(), 1);
-    assert_eq!(rt; ring.capacity(), 3);
+    assert!(rt; ring.fill_repeat(9, 2) == 2);
+    assert!(rt; ring.len() == 2);
+    assert!(rt; ring.remaining_capacity() == 1);
+    assert!(rt; ring.capacity() == 3);
     assert!(rt; !ring.is_full());
     Ok(())
 }
@@ -42,12 +42,12 @@ fn drops_its_items(rt: HostRuntime) -> Result<(), Fail> {
     let alloc = rt.alloc();
     let item = Rc::new(alloc, 5)?;
     let mut ring = FixedRingBuffer::new(alloc, 2)?;
-    assert_eq!(rt; ring.push(item.clone()?), Some(()));
-    assert_eq!(rt; ring.push(item.clone()?), Some(()));
-    assert_eq!(rt; ring.push(item.clone()?), None);
-    assert_eq!(rt; Rc::strong_count(&item), 3);
+    assert!(rt; ring.push(item.clone()?) == Some(()));
+    assert!(rt; ring.push(item.clone()?) == Some(()));
+    assert!(rt; ring.push(item.clone()?) == None);
+    assert!(rt; Rc::strong_count(&item) == 3);
     drop(ring);
-    assert_eq!(rt; Rc::strong_count(&item), 1);
+    assert!(rt; Rc::strong_count(&item) == 1);
     Ok(())
 }
 

@@ -19,9 +19,9 @@ fn the_sketch_of_two_hashes(rt: HostRuntime) -> Result<(), Fail> {
     note(&mut other, 1);
     join(&mut sketch, &other);
     let registers = sketch.registers();
-    assert_eq!(rt; registers[0], 65);
-    assert_eq!(rt; registers[144], 3);
-    assert_eq!(rt; registers.iter().filter(|r| **r == 0).count(), 254);
+    assert!(rt; registers[0] == 65);
+    assert!(rt; registers[144] == 3);
+    assert!(rt; registers.iter().filter(|r| **r == 0).count() == 254);
     can_be_shared(&sketch);
     Ok(())
 }

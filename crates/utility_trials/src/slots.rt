@@ -31,13 +31,13 @@ fn keys_are_never_given_twice(rt: HostRuntime) -> Result<(), Fail> {
     let mut rows = SlotMap::<RowKey, u8>::with_capacity_and_key(rt.alloc(), 1)?;
     assert!(rt; rows.is_empty());
     let first = rows.insert(10)?;
-    assert_eq!(rt; rows.remove(first), Some(10));
+    assert!(rt; rows.remove(first) == Some(10));
     let second = rows.insert(20)?;
     assert_ne!(rt; first, second);
-    assert_eq!(rt; rows.get(first), None);
+    assert!(rt; rows.get(first) == None);
     assert!(rt; !rows.contains_key(first));
     assert!(rt; rows.contains_key(second));
-    assert_eq!(rt; rows.remove(RowKey::null()), None);
+    assert!(rt; rows.remove(RowKey::null()) == None);
     Ok(())
 }
 
@@ -47,21 +47,21 @@ fn iterators_keep_the_order_of_insertion(rt: HostRuntime) -> Result<(), Fail> {
     let first = rows.insert(10)?;
     let second = rows.insert(20)?;
     let third = rows.insert(30)?;
-    assert_eq!(rt; rows.remove(second), Some(20));
+    assert!(rt; rows.remove(second) == Some(20));
     if let Some(value) = rows.get_mut(third) {
         *value = 33;
     }
-    assert_eq!(rt; rows.len(), 2);
+    assert!(rt; rows.len() == 2);
     let mut keys = rows.keys();
-    assert_eq!(rt; keys.next(), Some(first));
-    assert_eq!(rt; keys.next(), Some(third));
-    assert_eq!(rt; keys.next(), None);
+    assert!(rt; keys.next() == Some(first));
+    assert!(rt; keys.next() == Some(third));
+    assert!(rt; keys.next() == None);
     let mut values = Vec::new(rt.alloc());
     for (key, value) in rows.iter() {
         assert!(rt; rows.contains_key(key));
         values.push(*value)?;
     }
-    assert_eq!(rt; values.as_slice(), [10, 33].as_slice());
+    assert!(rt; values.as_slice() == [10, 33].as_slice());
     can_be_shared(&rows);
     Ok(())
 }
@@ -69,16 +69,16 @@ fn iterators_keep_the_order_of_insertion(rt: HostRuntime) -> Result<(), Fail> {
 #[test]
 fn a_secondary_map_is_a_map(rt: HostRuntime) -> Result<(), Fail> {
     let mut names = SecondaryMap::<RowKey, u8>::new(rt.alloc());
-    assert_eq!(rt; names.insert(RowKey(5), 1)?, None);
-    assert_eq!(rt; names.insert(RowKey(5), 2)?, Some(1));
-    assert_eq!(rt; names.get(RowKey(5)).copied(), Some(2));
-    assert_eq!(rt; names.get(RowKey(4)), None);
+    assert!(rt; names.insert(RowKey(5), 1)? == None);
+    assert!(rt; names.insert(RowKey(5), 2)? == Some(1));
+    assert!(rt; names.get(RowKey(5)).copied() == Some(2));
+    assert!(rt; names.get(RowKey(4)) == None);
     if let Some(value) = names.get_mut(RowKey(5)) {
         *value = 7;
     }
     assert!(rt; names.contains_key(RowKey(5)));
-    assert_eq!(rt; names.remove(RowKey(5)), Some(7));
-    assert_eq!(rt; names.remove(RowKey(6)), None);
+    assert!(rt; names.remove(RowKey(5)) == Some(7));
+    assert!(rt; names.remove(RowKey(6)) == None);
     let roomy = SecondaryMap::<RowKey, u8>::with_capacity(rt.alloc(), 4)?;
     assert!(rt; !roomy.contains_key(RowKey(0)));
     can_be_shared(&names);

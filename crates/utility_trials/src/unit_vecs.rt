@@ -8,16 +8,16 @@ use std::test::Fail;
 fn takes_memory_at_the_second_item(rt: HostRuntime) -> Result<(), Fail> {
     let alloc = rt.alloc();
     let mut v: UnitVec<u32> = UnitVec::new(alloc);
-    assert_eq!(rt; v.capacity(), 1);
+    assert!(rt; v.capacity() == 1);
     v.push(1)?;
-    assert_eq!(rt; v.capacity(), 1);
+    assert!(rt; v.capacity() == 1);
     v.push(2)?;
-    assert_eq!(rt; v.capacity(), 8);
-    assert_eq!(rt; v.as_slice(), [1, 2].as_slice());
+    assert!(rt; v.capacity() == 8);
+    assert!(rt; v.as_slice() == [1, 2].as_slice());
     let listed: UnitVec<u32> = unitvec!(alloc; 4, 5, 6)?;
-    assert_eq!(rt; listed.as_slice(), [4, 5, 6].as_slice());
+    assert!(rt; listed.as_slice() == [4, 5, 6].as_slice());
     let one: UnitVec<u32> = unitvec!(alloc; 4);
-    assert_eq!(rt; one.len(), 1);
+    assert!(rt; one.len() == 1);
     assert!(rt; listed != one);
     Ok(())
 }
@@ -27,14 +27,14 @@ fn writes_to_short_vectors(rt: HostRuntime) -> Result<(), Fail> {
     let alloc = rt.alloc();
     let mut v: IdxVec = unitvec!(alloc; 4);
     v.as_mut_slice()[0] = 5;
-    assert_eq!(rt; AsSlice::as_slice(&v), [5].as_slice());
+    assert!(rt; AsSlice::as_slice(&v) == [5].as_slice());
     let more: IdxVec = unitvec!(alloc; 5, 7)?;
     v.extend([7].iter().copied())?;
     assert!(rt; v == more);
     for item in v.iter_mut() {
         *item = 1;
     }
-    assert_eq!(rt; v.as_slice(), [1, 1].as_slice());
+    assert!(rt; v.as_slice() == [1, 1].as_slice());
     can_be_shared(&v);
     Ok(())
 }
@@ -44,13 +44,13 @@ fn writes_its_items(rt: HostRuntime) -> Result<(), Fail> {
     let alloc = rt.alloc();
     let none: IdxVec = unitvec!(alloc);
     let text = format!(in alloc; "{none:?}")?;
-    assert_eq!(rt; text.as_str(), "UnitVec: []");
+    assert!(rt; text.as_str() == "UnitVec: []");
     let one: IdxVec = unitvec!(alloc; 4);
     let text = format!(in alloc; "{one:?}")?;
-    assert_eq!(rt; text.as_str(), "UnitVec: [4]");
+    assert!(rt; text.as_str() == "UnitVec: [4]");
     let two: IdxVec = unitvec!(alloc; 1, 2)?;
     let text = format!(in alloc; "{two:?}")?;
-    assert_eq!(rt; text.as_str(), "UnitVec: [1, 2]");
+    assert!(rt; text.as_str() == "UnitVec: [1, 2]");
     Ok(())
 }
 
@@ -58,14 +58,14 @@ fn writes_its_items(rt: HostRuntime) -> Result<(), Fail> {
 fn makes_short_vectors(rt: HostRuntime) -> Result<(), Fail> {
     let alloc = rt.alloc();
     let same: IdxVec = unitvec!(alloc; 4; 3)?;
-    assert_eq!(rt; same.as_slice(), [4, 4, 4].as_slice());
+    assert!(rt; same.as_slice() == [4, 4, 4].as_slice());
     let copy = same.try_clone(alloc)?;
     assert!(rt; copy == same);
     let roomy: IdxVec = UnitVec::with_capacity(alloc, 5)?;
-    assert_eq!(rt; roomy.capacity(), 5);
+    assert!(rt; roomy.capacity() == 5);
     assert!(rt; roomy.is_empty());
     let kept = UnitVec::from_vec(alloc, [1u8, 2].to_vec(alloc)?);
-    assert_eq!(rt; kept.as_slice(), [1, 2].as_slice());
+    assert!(rt; kept.as_slice() == [1, 2].as_slice());
     Ok(())
 }
 
@@ -73,13 +73,13 @@ fn makes_short_vectors(rt: HostRuntime) -> Result<(), Fail> {
 fn makes_room(rt: HostRuntime) -> Result<(), Fail> {
     let mut v: IdxVec = UnitVec::new(rt.alloc());
     v.reserve(9)?;
-    assert_eq!(rt; v.capacity(), 9);
+    assert!(rt; v.capacity() == 9);
     v.extend_from_slice(&[1, 2])?;
     v.push_unchecked(3);
-    assert_eq!(rt; v.iter().len(), 3);
-    assert_eq!(rt; v.pop(), Some(3));
-    assert_eq!(rt; v.as_slice(), [1, 2].as_slice());
+    assert!(rt; v.iter().len() == 3);
+    assert!(rt; v.pop() == Some(3));
+    assert!(rt; v.as_slice() == [1, 2].as_slice());
     v.clear();
-    assert_eq!(rt; v.len(), 0);
+    assert!(rt; v.len() == 0);
     Ok(())
 }
