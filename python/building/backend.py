@@ -21,12 +21,12 @@ def _project() -> dict[str, Any]:
 
 
 def _files() -> dict[str, bytes]:
-    """The package's modules by their paths."""
+    """The package's modules by their paths, and the mark that they have types."""
     name = _project()["name"]
     folder = os.path.join(HERE, name)
     found = {}
     for module in sorted(os.listdir(folder)):
-        if module.endswith(".py"):
+        if module.endswith(".py") or module == "py.typed":
             with open(os.path.join(folder, module), "rb") as file:
                 found[f"{name}/{module}"] = file.read()
     return found
@@ -43,6 +43,7 @@ def _metadata() -> str:
             f"Version: {project['version']}",
             f"Summary: {project['description']}",
             f"Requires-Python: {project['requires-python']}",
+            f"License: {project['license']['text']}",
             "Description-Content-Type: text/markdown",
             "",
             readme,

@@ -21,27 +21,65 @@ from .errors import (
     InvalidDocument,
     InvalidPlan,
     NavgriesoError,
+    NotHere,
     NotYet,
     OutOfMemory,
     ProgramFailed,
     ProgramNotFound,
     ReadFault,
+    SurprisingKind,
     WordsRefused,
     WriteFault,
 )
 from .expressions import Expr
 from .frames import GroupBy, LazyFrame, concat
-from .functions import col, len, lit, when
+from .functions import (
+    all,
+    all_horizontal,
+    any,
+    any_horizontal,
+    coalesce,
+    col,
+    count,
+    exclude,
+    first,
+    head,
+    last,
+    len,
+    lit,
+    max,
+    mean,
+    min,
+    n_unique,
+    sum,
+    tail,
+    when,
+)
 from .kinds import Kind
 from .pictures import Picture
+from .polars_names import MODULE as _MODULE
+from .polars_names import refused as _refused
 from .tables import read_csv, table
+from .version import VERSION as __version__
 
 Boolean = Kind.BOOLEAN
 Int64 = Kind.INT64
 IdxSize = Kind.IDX
-# The name that Polars has for the kind of its row counts.
+# Names that Polars has for these kinds.
 UInt32 = Kind.IDX
 String = Kind.STRING
+
+# A file is read where it is named, so that its columns are known.
+scan_csv = read_csv
+
+
+def __getattr__(name: str) -> object:
+    """Refuses the names of Polars that aren't here, with what to use instead."""
+    raise NotHere(_refused("polars", name, _MODULE) if name in _MODULE else _no_name(name))
+
+
+def _no_name(name: str) -> str:
+    return f"module {__name__!r} has no attribute {name!r}"
 
 
 def answer(
@@ -78,6 +116,7 @@ __all__ = [
     "Kind",
     "LazyFrame",
     "NavgriesoError",
+    "NotHere",
     "NotYet",
     "OutOfMemory",
     "Picture",
@@ -85,15 +124,33 @@ __all__ = [
     "ProgramNotFound",
     "ReadFault",
     "String",
+    "SurprisingKind",
     "UInt32",
     "WordsRefused",
     "WriteFault",
+    "all",
+    "all_horizontal",
     "answer",
+    "any",
+    "any_horizontal",
+    "coalesce",
     "col",
     "concat",
+    "count",
+    "exclude",
+    "first",
+    "head",
+    "last",
     "len",
     "lit",
+    "max",
+    "mean",
+    "min",
+    "n_unique",
     "read_csv",
+    "scan_csv",
+    "sum",
     "table",
+    "tail",
     "when",
 ]

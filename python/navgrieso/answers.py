@@ -1,13 +1,14 @@
 """What the program answers: a table, by its columns."""
 from __future__ import annotations
 
-from collections.abc import Iterator, Mapping
+from collections.abc import ItemsView, Iterator, KeysView, Mapping, Sequence, ValuesView
+from html import escape
 from typing import Any
 
-from .csv_text import rows_of, text_of
+from .csv_text import sheet_of, text_of
 from .errors import ProgramFailed
 from .kinds import Cell, Kind
-from .printing import aligned
+from .printing import aligned, shown
 
 # How many rows are printed of a longer answer.
 MOST_SHOWN = 20
@@ -27,8 +28,28 @@ class Answer(Mapping[str, list]):
         return iter(self._columns)
 
     def __len__(self) -> int:
-        """How many columns there are."""
-        return len(self._columns)
+        """How many rows there are, as of a DataFrame."""
+        return self.height
+
+    def __contains__(self, name: object) -> bool:
+        return name in self._columns
+
+    def __eq__(self, other: object) -> bool:
+        return dict(self._columns) == (dict(other) if isinstance(other, Mapping) else other)
+
+    __hash__ = None  # type: ignore[assignment]
+
+    def keys(self) -> KeysView[str]:
+        """The names of the columns."""
+        return self._columns.keys()
+
+    def values(self) -> ValuesView[list[Cell]]:
+        """The columns."""
+        return self._columns.values()
+
+    def items(self) -> ItemsView[str, list[Cell]]:
+        """The columns with their names."""
+        return self._columns.items()
 
     @property
     def columns(self) -> list[str]:
@@ -40,9 +61,30 @@ class Answer(Mapping[str, list]):
         """How many rows there are."""
         return next((len(cells) for cells in self._columns.values()), 0)
 
-    def rows(self) -> list[tuple[Cell, ...]]:
-        """The rows, each a tuple of cells."""
-        return list(zip(*self._columns.values()))
+    @property
+    def width(self) -> int:
+        """How many columns there are."""
+        return len(self._columns)
+
+    @property
+    def shape(self) -> tuple[int, int]:
+        """How many rows there are, and how many columns."""
+        return self.height, self.width
+
+    def rows(self, *, named: bool = False) -> list[Any]:
+        """The rows, each a tuple of cells, or a dict where `named` says so."""
+        rows = zip(*self._columns.values())
+        return [dict(zip(self._columns, row)) for row in rows] if named else list(rows)
+
+    def to_dicts(self) -> list[dict[str, Cell]]:
+        """The rows, each a dict."""
+        return self.rows(named=True)
+
+    def item(self) -> Cell:
+        """The one cell. Raises ValueError where there is another number of them."""
+        if self.shape != (1, 1):
+            raise ValueError(f"one cell is wanted, and there are {self.height} x {self.width}")
+        return next(iter(self._columns.values()))[0]
 
     def to_dict(self) -> dict[str, list[Cell]]:
         """The columns by name."""
@@ -101,10 +143,25 @@ class Answer(Mapping[str, list]):
 
     def __repr__(self) -> str:
         rows = self.rows()
-        head = f"{self.height} rows, {len(self)} columns"
+        head = f"{self.height} rows, {self.width} columns"
         more = f"\n({len(rows) - MOST_SHOWN} more rows)" if len(rows) > MOST_SHOWN else ""
         text = aligned(self.columns, rows[:MOST_SHOWN], self.numeric(), null="null")
         return f"{head}\n{text}{more}"
+
+    def _repr_html_(self) -> str:
+        """The same as a table for notebooks."""
+        names = "".join(f"<th>{escape(shown(name))}</th>" for name in self.columns)
+        kinds = "".join(f"<td><i>{kind!r}</i></td>" for kind in self.schema.values())
+        rows = "".join(
+            "<tr>" + "".join(f"<td>{escape(shown(cell, 'null'))}</td>" for cell in row) + "</tr>"
+            for row in self.rows()[:MOST_SHOWN]
+        )
+        more = self.height - MOST_SHOWN
+        foot = f"<p>({more} more rows)</p>" if more > 0 else ""
+        return (
+            f"<p>{self.height} rows, {self.width} columns</p><table><thead><tr>{names}</tr>"
+            f"<tr>{kinds}</tr></thead><tbody>{rows}</tbody></table>{foot}"
+        )
 
     def numeric(self) -> list[bool]:
         """Of each column whether it holds whole numbers."""
@@ -118,15 +175,12 @@ def read_answer(output: bytes, schema: list[tuple[str, str]], marks: dict[str, s
     of the column that says where they are null; such columns are taken out. An empty field is null
     otherwise. Raises ProgramFailed where the header isn't that of the schema.
     """
-    lines = rows_of(output.decode("utf-8"))
-    _, header = next(lines, (0, []))
-    if [name or "" for name in header] != [name for name, _ in schema]:
+    sheet = sheet_of(output.decode("utf-8"))
+    if sheet.names != [name for name, _ in schema]:
         raise ProgramFailed(
-            f"the program answered the columns {header}, and not those of {schema}"
+            f"the program answered the columns {sheet.names}, and not those of {schema}"
         )
-    fields = dict(zip((name for name, _ in schema), zip(*(row for _, row in lines)))) or {
-        name: () for name, _ in schema
-    }
+    fields = dict(zip(sheet.names, sheet.columns))
     kinds = {name: Kind.of(kind) for name, kind in schema if name not in marks.values()}
     return Answer(
         kinds,
@@ -138,7 +192,7 @@ def read_answer(output: bytes, schema: list[tuple[str, str]], marks: dict[str, s
 
 
 def _cells(
-    kind: Kind, fields: tuple[str | None, ...], nulls: tuple[str | None, ...] | None
+    kind: Kind, fields: Sequence[str | None], nulls: Sequence[str | None] | None
 ) -> list[Cell]:
     if kind is not Kind.STRING:
         read = {"true": True, "false": False}.get if kind is Kind.BOOLEAN else int

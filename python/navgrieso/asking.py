@@ -9,10 +9,14 @@ from .answers import Answer, read_answer
 from .checker import flaws_of
 from .csv_text import rows_of
 from .errors import InvalidDocument, InvalidPlan, NotYet
+from .kinds import Kind
 from .plans import Built, encoded
 from .program import ask, find, settings
 from .refusals import refusal
 from .schemas import Schema, Schemas
+
+# A plan over more cells is asked over tables without rows first.
+LARGE = 100_000
 
 
 def collect(
@@ -24,8 +28,13 @@ def collect(
     plan_tool: str | None = None,
 ) -> Answer:
     """The answer to a plan. Raises an exception for each status but 0."""
-    asked, marks = _with_marks(built)
     words = ["run", *settings(workers, rows, serial)]
+    if _cells(built.document) > LARGE:
+        # So that a slip is told before the cells are written, and read by the program.
+        reply = ask(words, encoded(without_rows(built.document)), plan_tool)
+        if reply.status == 4:
+            raise refusal(reply, built)
+    asked, marks = _with_marks(built)
     reply = ask(words, encoded(asked.document), plan_tool)
     if marks and reply.line.startswith("InvalidPlan Limits"):
         # What is asked beside the plan makes it deeper, and it may be as deep as plans may be.
@@ -71,6 +80,17 @@ def explain(built: Built, *, plan_tool: str | None = None) -> str:
     return reply.output.decode("utf-8")
 
 
+def schema_of(built: Built, *, plan_tool: str | None = None) -> dict[str, Kind]:
+    """The columns of a plan's answer with their kinds. Raises what the program refuses of it."""
+    schema = _root_schema(built)
+    if schema is None:
+        reply = ask(["run"], encoded(without_rows(built.document)), plan_tool)
+        if reply.status not in (0, 5):
+            raise refusal(reply, built)
+        raise InvalidPlan("the kinds of the answer's columns aren't known")
+    return {name: Kind.of(kind) for name, kind in schema}
+
+
 def read_document(document: Mapping[str, Any] | bytes | str) -> Built:
     """A document that wasn't made by a frame, as JSON's values or as text. Raises InvalidDocument,
     with its flaws."""
@@ -89,6 +109,15 @@ def read_document(document: Mapping[str, Any] | bytes | str) -> Built:
     read = json.loads(text)
     schemas = Schemas(read)
     return Built(read, [], [schemas.of(number) for number in range(len(read["nodes"]))])
+
+
+def without_rows(document: dict[str, Any]) -> dict[str, Any]:
+    """The same document over the same tables without rows. Whether its plan is valid doesn't hang
+    on rows."""
+    return {
+        **document,
+        "tables": [[[name, kind, []] for name, kind, _ in table] for table in document["tables"]],
+    }
 
 
 def _with_marks(built: Built) -> tuple[Built, dict[str, str]]:
@@ -117,6 +146,11 @@ def _with_marks(built: Built) -> tuple[Built, dict[str, str]]:
     wide = [*schema, *((mark, "bool") for mark in marks.values())]
     asked = {**document, "exprs": exprs, "nodes": nodes, "root": len(nodes) - 1}
     return Built(asked, built.steps, [*built.schemas, wide, wide]), marks
+
+
+def _cells(document: dict[str, Any]) -> int:
+    """How many cells the tables have."""
+    return sum(len(cells) for table in document["tables"] for _, _, cells in table)
 
 
 def _root_schema(built: Built) -> Schema | None:

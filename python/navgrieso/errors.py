@@ -98,8 +98,17 @@ class NotYet(NavgriesoError):
     """The program that was found hasn't this command."""
 
 
+class NotHere(NavgriesoError, AttributeError):
+    """A name of Polars that isn't here. The message says what to use instead."""
+
+
 class CsvFault(NavgriesoError):
     """A CSV file can't be read as a table. The message says in which line."""
+
+
+class SurprisingKind(UserWarning):
+    """A column of a CSV file was read as text, though most of its fields look like something
+    else."""
 
 
 BY_STATUS: dict[int, type[NavgriesoError]] = {

@@ -29,9 +29,12 @@ def text_of(expr: Any, depth: int = DEPTH) -> str:
     word, parts = expr.word, expr.parts
     if depth == 0:
         return ".."
-    if hasattr(expr, "shown"):
+    if word == "left_out" and hasattr(expr, "shown"):
         return expr.shown()
     shown = [_part(part, depth - 1) for part in parts]
+    if word == "many":
+        names = "all()" if parts[0] is None else f"col({', '.join(map(_quoted, parts[0]))})"
+        return f"{names}.exclude({', '.join(map(_quoted, expr.but))})" if expr.but else names
     if word in ("col", "left_out"):
         return f"{word}({_quoted(parts[0])})"
     if word in ("free", "bool", "int", "idx", "str"):
@@ -74,15 +77,18 @@ def _call(word: str, parts: tuple, shown: list[str]) -> str:
 
 def named_text(expr: Any) -> str:
     """An expression with its alias, where it has a name of its own."""
+    if expr.output_name == "*":
+        return text_of(expr)
     leftmost = expr
     while leftmost.parts and hasattr(leftmost.parts[0], "word"):
         leftmost = leftmost.parts[1] if leftmost.word == "ternary" else leftmost.parts[0]
     name = {
         "col": leftmost.parts[0] if leftmost.parts else "",
         "len": "len",
-        "left_out": expr.name,
+        "left_out": expr.output_name,
     }.get(leftmost.word, "literal")
-    return text_of(expr) if name == expr.name else f"{text_of(expr)}.alias({_quoted(expr.name)})"
+    own = expr.output_name
+    return text_of(expr) if name == own else f"{text_of(expr)}.alias({_quoted(own)})"
 
 
 def orders(descending: bool | list[bool], nulls_last: bool | list[bool], first: str = ", ") -> str:

@@ -8,30 +8,37 @@ from __future__ import annotations
 
 from collections.abc import Callable, Iterable, Iterator
 from functools import reduce
+from typing import NoReturn
 
+from .derived_expressions import Derived
+from .errors import NotHere
 from .expression_text import text_of
 from .kinds import Kind
-from .operators import Operators
+from .polars_names import EXPR, refused
 
 # What stands where an expression is wanted: an expression, or a value of Python's.
 Operand = object
 
 
-class Expr(Operators):
+class Expr(Derived):
     """An expression: a word of the document's, its parts (expressions, lists of them, and plain
     values), and the name that its column has where none is given, which is that of its leftmost
     column."""
 
-    __slots__ = ("word", "parts", "name")
+    __slots__ = ("word", "parts", "output_name")
 
     def __init__(self, word: str, parts: tuple, name: str) -> None:
         self.word = word
         self.parts = parts
-        self.name = name
+        self.output_name = name
 
     def alias(self, name: str) -> Expr:
         """The same values under another name."""
         return Expr(self.word, self.parts, name)
+
+    def __getattr__(self, name: str) -> NoReturn:
+        """Refuses the names of Polars that aren't here, with what to use instead."""
+        raise NotHere(refused("Expr", name, EXPR))
 
     def __bool__(self) -> bool:
         raise TypeError(
@@ -42,25 +49,34 @@ class Expr(Operators):
         return text_of(self)
 
     def _before(self, word: str, other: Operand) -> Expr:
-        return Expr(word, (self, value(other)), self.name)
+        return Expr(word, (self, value(other)), self.output_name)
 
     def _behind(self, word: str, other: Operand) -> Expr:
         left = value(other)
-        return Expr(word, (left, self), left.name)
+        return Expr(word, (left, self), left.output_name)
 
     def _alone(self, word: str) -> Expr:
         return self._of(word)
 
+    def _choice(self, predicate: Expr, then: Operand, otherwise: Operand) -> Expr:
+        return Expr("ternary", (predicate, value(then), value(otherwise)), self.output_name)
+
+    def _value(self, given: Operand) -> Expr:
+        return value(given)
+
+    def _column(self, given: Operand) -> Expr:
+        return column(given)
+
     def _of(self, word: str, *parts: object) -> Expr:
-        return Expr(word, (self, *parts), self.name)
+        return Expr(word, (self, *parts), self.output_name)
 
     def __neg__(self) -> Expr:
-        return self._behind("sub", 0).alias(self.name)
+        return self._behind("sub", 0).alias(self.output_name)
 
     def __truediv__(self, other: Operand) -> Expr:
         """Left out by the engine, which has no floats: a plan with it is refused as `Unsupported
         TrueDivide`."""
-        return LeftOut("TrueDivide", self.name, lambda: f"{self!r} / {other!r}")
+        return LeftOut("TrueDivide", self.output_name, lambda: f"{self!r} / {other!r}")
 
     def not_(self) -> Expr:
         """`~`: not; of null it is null."""
@@ -171,17 +187,96 @@ class Expr(Operators):
 
     def mean(self) -> Expr:
         """Left out by the engine: a plan with it is refused as `Unsupported Mean`."""
-        return LeftOut("Mean", self.name, lambda: f"{self!r}.mean()")
+        return LeftOut("Mean", self.output_name, lambda: f"{self!r}.mean()")
 
     def median(self) -> Expr:
         """Left out by the engine: a plan with it is refused as `Unsupported Median`."""
-        return LeftOut("Median", self.name, lambda: f"{self!r}.median()")
+        return LeftOut("Median", self.output_name, lambda: f"{self!r}.median()")
 
     def over(self, *partition_by: Operand) -> Expr:
         """Left out by the engine: a plan with it is refused as `Unsupported Window`."""
         return LeftOut(
-            "Window", self.name, lambda: f"{self!r}.over({', '.join(map(repr, partition_by))})"
+            "Window",
+            self.output_name,
+            lambda: f"{self!r}.over({', '.join(map(repr, partition_by))})",
         )
+
+
+class Many(Expr):
+    """One expression for each of some columns: those of these names, or all but some."""
+
+    __slots__ = ("but",)
+
+    def __init__(self, names: tuple[str, ...] | None, but: tuple[str, ...] = ()) -> None:
+        super().__init__("many", (names,), MANY)
+        self.but = but
+
+    def exclude(self, *names: str | Iterable[str]) -> Many:
+        """The same but for these columns."""
+        return Many(self.parts[0], (*self.but, *flat_names(names)))
+
+    def of(self, there: Callable[[], list[str]]) -> list[str]:
+        """The names that are meant, where `there` gives those that there are."""
+        names = there() if self.parts[0] is None else self.parts[0]
+        return [name for name in names if name not in self.but]
+
+
+# The name of an expression that takes that of its column.
+MANY = "*"
+
+
+def flat_names(names: Iterable[str | Iterable[str]]) -> list[str]:
+    """Names, and lists of names, as one list. Raises TypeError for what is none."""
+    found: list[str] = []
+    for it in names:
+        if isinstance(it, str):
+            found.append(it)
+        elif isinstance(it, Iterable) and not isinstance(it, Expr):
+            found.extend(flat_names(it))
+        else:
+            raise TypeError(f"a column's name is a text, and not {it!r}")
+    return found
+
+
+def expanded(exprs: Iterable[Expr], there: Callable[[], list[str]]) -> list[Expr]:
+    """The expressions, where one over many columns stands once for each of them."""
+    found: list[Expr] = []
+    for expr in exprs:
+        many = _many_in(expr)
+        if many is None:
+            found.append(expr)
+        else:
+            found.extend(_over(expr, name, there) for name in many.of(there))
+    return found
+
+
+def _many_in(expr: Expr) -> Many | None:
+    seen: set[int] = set()
+    waiting = [expr]
+    while waiting:
+        at = waiting.pop()
+        if isinstance(at, Many):
+            return at
+        if id(at) not in seen:
+            seen.add(id(at))
+            waiting.extend(parts_of(at))
+    return None
+
+
+def _over(expr: Expr, name: str, there: Callable[[], list[str]]) -> Expr:
+    """The expression over the one column."""
+    own = name if expr.output_name == MANY else expr.output_name
+    if isinstance(expr, Many):
+        return Expr("col", (name,), own)
+    if _many_in(expr) is None:
+        return expr
+
+    def part(it: object) -> object:
+        if isinstance(it, list):
+            return [part(each) for each in it]
+        return _over(it, name, there) if isinstance(it, Expr) else it
+
+    return Expr(expr.word, tuple(map(part, expr.parts)), own)
 
 
 class LeftOut(Expr):
@@ -215,6 +310,8 @@ def literal(given: object, dtype: Kind | str | type | None = None) -> Expr:
     Raises ValueError for what no kind holds, TypeError for what is no value of Python's that a
     column could hold.
     """
+    if hasattr(given, "item") and hasattr(given, "dtype"):
+        given = given.item()  # a value of numpy
     if isinstance(given, float):
         return LeftOut("FloatLiteral", "literal", lambda: repr(given))
     if given is not None and not isinstance(given, (bool, int, str)):

@@ -2,29 +2,59 @@
 when it is asked."""
 from __future__ import annotations
 
-from collections.abc import Iterable
-from typing import Any
+from collections.abc import Iterable, Mapping
+from typing import Any, NoReturn
 
 from .answers import Answer
-from .asking import collect, explain, write_csv
+from .asking import collect, explain, schema_of, write_csv
+from .derived_frames import DerivedFrame, DerivedGroups, diagonal
+from .errors import NotHere
 from .expression_text import named_text, orders
-from .expressions import Expr, Operand, all_of, columns, flags
+from .expressions import Expr, Operand, all_of, column, columns, expanded, flags
+from .kinds import Kind
 from .pictures import Picture, picture
 from .plans import Step, Table, build
+from .polars_names import FRAME, refused
 from .source import source_line
 
 REST = 2**64 - 1
 
 
-class LazyFrame:
+class LazyFrame(DerivedFrame):
     """A plan over tables. Each method gives a new frame, and nothing is computed before `collect`.
 
     Sorts are always stable. The order of rows is fixed but after `group_by` and `unique` without
     `maintain_order`.
     """
 
-    def __init__(self, step: Step) -> None:
-        self._step = step
+    def __init__(
+        self, data: Any = None, schema: Mapping[str, Kind | str | type] | None = None
+    ) -> None:
+        """A frame of columns by name, as `table` takes them."""
+        if not isinstance(data, Step):
+            from .tables import table
+
+            data = table({} if data is None else data, schema)._step
+        self._step = data
+
+    def __getattr__(self, name: str) -> NoReturn:
+        """Refuses the names of Polars that aren't here, with what to use instead."""
+        raise NotHere(refused("LazyFrame", name, FRAME))
+
+    def __repr__(self) -> str:
+        return f"<a lazy frame: {self._step.text()}; collect() answers it>"
+
+    def _repr_html_(self) -> str:
+        return self.show().svg()
+
+    def collect_schema(self) -> dict[str, Kind]:
+        """The columns with their kinds. Raises what the program refuses, where the plan isn't
+        valid."""
+        return schema_of(build(self._step))
+
+    def _columns(self, *given: Operand | Iterable[Operand], **named: Operand) -> list[Expr]:
+        """What stands where columns are wanted; one over many columns stands for each of them."""
+        return expanded(columns(*given, **named), lambda: self.columns)
 
     def _then(self, entry: Any, text: Any, *others: LazyFrame) -> LazyFrame:
         inputs = (self._step, *(it._step for it in others))
@@ -32,9 +62,11 @@ class LazyFrame:
 
     # Rows.
 
-    def filter(self, *predicates: Operand) -> LazyFrame:
-        """The rows where every predicate is true; where one is null the row is dropped."""
-        predicate = all_of(predicates)
+    def filter(self, *predicates: Operand, **constraints: Any) -> LazyFrame:
+        """The rows where every predicate is true, and each column of the constraints has its value;
+        where one is null the row is dropped."""
+        equal = [column(name) == given for name, given in constraints.items()]
+        predicate = all_of(self._columns(*predicates, *equal))
         return self._then(
             lambda i, e: ["filter", i[0], e(predicate)], lambda: f"filter({predicate!r})"
         )
@@ -76,7 +108,7 @@ class LazyFrame:
     ) -> LazyFrame:
         """The rows in order. Unlike Polars it is always stable; nulls come first unless
         `nulls_last`, also in a sort that descends."""
-        keys, down, last = columns(by, *more_by), flags(descending), flags(nulls_last)
+        keys, down, last = self._columns(by, *more_by), flags(descending), flags(nulls_last)
         return self._then(
             lambda i, e: ["sort", i[0], [e(key) for key in keys], down, last, None],
             lambda: f"sort({_listed(keys)}{orders(down, last)})",
@@ -104,18 +136,18 @@ class LazyFrame:
     def select(self, *exprs: Operand | Iterable[Operand], **named: Operand) -> LazyFrame:
         """The expressions side by side. One cell is repeated; columns of other lengths must agree
         (DataFault)."""
-        made = columns(*exprs, **named)
+        made = self._columns(*exprs, **named)
 
         def text() -> str:
             return f"select({_listed(made)})"
 
-        if made and all(it.word == "col" and it.name == it.parts[0] for it in made):
-            return self._then(lambda i, e: ["project", i[0], [it.name for it in made]], text)
+        if made and all(it.word == "col" and it.output_name == it.parts[0] for it in made):
+            return self._then(lambda i, e: ["project", i[0], [it.output_name for it in made]], text)
         return self._then(lambda i, e: ["select", i[0], _named(made, e)], text)
 
     def with_columns(self, *exprs: Operand | Iterable[Operand], **named: Operand) -> LazyFrame:
         """The rows with more columns; one of the same name is replaced in its place."""
-        made = columns(*exprs, **named)
+        made = self._columns(*exprs, **named)
         return self._then(
             lambda i, e: ["hstack", i[0], _named(made, e)],
             lambda: f"with_columns({_listed(made)})",
@@ -133,7 +165,7 @@ class LazyFrame:
     ) -> GroupBy:
         """The rows by keys, for `agg`. Null is a key. With `maintain_order` the groups stand in
         the order in which their keys come first, else in any."""
-        return GroupBy(self, columns(*by, **named_by), bool(maintain_order))
+        return GroupBy(self, self._columns(*by, **named_by), bool(maintain_order))
 
     def join(
         self,
@@ -215,6 +247,10 @@ class LazyFrame:
         alike."""
         write_csv(build(self._step), path, plan_tool=plan_tool)
 
+    def sink_csv(self, path: str, *, plan_tool: str | None = None) -> None:
+        """`write_csv`."""
+        self.write_csv(path, plan_tool=plan_tool)
+
     def document(self) -> dict[str, Any]:
         """The document that the program is asked, as JSON's values."""
         return build(self._step).document
@@ -228,13 +264,13 @@ class LazyFrame:
         """A picture of the plan, which a notebook shows; written to a file (.svg or .dot) where a
         path is given."""
         built = build(self._step)
-        made = picture(built.document, built.schemas)
+        made = picture(built.document, built.schemas, built.names)
         if path is not None:
             made.save(path)
         return made
 
 
-class GroupBy:
+class GroupBy(DerivedGroups):
     """Rows by keys, which wait for `agg`."""
 
     def __init__(self, frame: LazyFrame, keys: list[Expr], maintain_order: bool) -> None:
@@ -243,7 +279,13 @@ class GroupBy:
     def agg(self, *aggs: Operand | Iterable[Operand], **named: Operand) -> LazyFrame:
         """A row for each key: the keys, then the aggregates, each of which gives one cell for a
         group."""
-        keys, made, is_ordered = self._keys, columns(*aggs, **named), self._is_ordered
+        keys, is_ordered = self._keys, self._is_ordered
+        taken = {key.output_name for key in keys}
+
+        def others() -> list[str]:
+            return [name for name in self._frame.columns if name not in taken]
+
+        made = expanded(columns(*aggs, **named), others)
         return self._frame._then(
             lambda i, e: ["group_by", i[0], _named(keys, e), _named(made, e), is_ordered, None],
             lambda: f"group_by({_listed(keys)}).agg({_listed(made)})",
@@ -256,21 +298,24 @@ def scan(table: Table, text: str) -> LazyFrame:
 
 
 def concat(items: Iterable[LazyFrame], *, how: str = "vertical") -> LazyFrame:
-    """Frames one after the other (`vertical`), which have one schema, or side by side
-    (`horizontal`), where shorter ones are filled with null."""
-    _one_of("how", how, ("vertical", "horizontal"))
+    """Frames one after the other (`vertical`), which have one schema, or which get one, with null
+    where a column lacks (`diagonal`), or side by side (`horizontal`), where shorter ones are filled
+    with null."""
+    _one_of("how", how, ("vertical", "diagonal", "horizontal"))
     frames = list(items)
     if not frames:
         raise ValueError("there are no frames to concat")
-    rest = [None] if how == "vertical" else []
-    word = "union" if how == "vertical" else "hconcat"
+    if how == "diagonal":
+        frames = diagonal(frames)
+    rest = [] if how == "horizontal" else [None]
+    word = "hconcat" if how == "horizontal" else "union"
     return frames[0]._then(
         lambda i, e: [word, i, *rest], lambda: f"concat(.., how={how!r})", *frames[1:]
     )
 
 
 def _named(made: list[Expr], number: Any) -> list[list]:
-    return [[it.name, number(it)] for it in made]
+    return [[it.output_name, number(it)] for it in made]
 
 
 def _listed(made: list[Expr]) -> str:

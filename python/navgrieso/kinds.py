@@ -58,6 +58,17 @@ class Kind(enum.Enum):
         least, greatest = RANGES[self.value]
         return isinstance(cell, int) and not isinstance(cell, bool) and least <= cell <= greatest
 
+    def first_other(self, cells: Sequence[object]) -> int | None:
+        """The place of the first cell that a column of this kind doesn't hold; None where it holds
+        them all."""
+        # Mostly the types tell it, and of numbers the least and the greatest.
+        types = set(map(type, cells)) - {type(None)}
+        if types <= {{"bool": bool, "str": str}.get(self.value, int)}:
+            numbers = [cell for cell in cells if cell is not None] if int in types else []
+            if all(map(self.holds, (min(numbers), max(numbers)) if numbers else ())):
+                return None
+        return next((place for place, cell in enumerate(cells) if not self.holds(cell)), None)
+
     def read(self, text: str | None) -> Cell:
         """The cell that a field of a CSV text stands for; an empty field is null, but for a text
         in quotes.
@@ -83,7 +94,7 @@ def kind_of_cells(cells: Iterable[object]) -> Kind:
 
     A column of nulls alone is of texts. Raises ValueError for values of two kinds, or of none.
     """
-    found = {type(cell) for cell in cells if cell is not None}
+    found = set(map(type, cells)) - {type(None)}
     if len(found) > 1:
         names = ", ".join(sorted(it.__name__ for it in found))
         raise ValueError(f"values of several types stand together: {names}")
@@ -101,12 +112,13 @@ def guessed_cells(texts: Sequence[str | None]) -> tuple[Kind, list[Cell]]:
 
     A whole number is one as it is printed: without a plus, without a needless zero.
     """
-    if any(texts):
-        for kind, read in ((Kind.BOOLEAN, _truths), (Kind.INT64, _numbers)):
-            cells = read(texts)
-            if cells is not None:
-                return kind, cells
-    return Kind.STRING, list(texts)
+    # Most columns of texts are told by their first field.
+    first = next((text for text in texts if text), None)
+    cells = None
+    if first is not None:
+        kind = Kind.BOOLEAN if first in TRUTHS else Kind.INT64
+        cells = _truths(texts) if kind is Kind.BOOLEAN else _numbers(texts)
+    return (Kind.STRING, list(texts)) if cells is None else (kind, cells)
 
 
 def read_cells(kind: Kind, texts: Sequence[str | None]) -> list[Cell]:
@@ -128,13 +140,18 @@ def _truths(texts: Sequence[str | None]) -> list[Cell] | None:
 def _numbers(texts: Sequence[str | None]) -> list[Cell] | None:
     """Whole numbers of kind Int64, each written as it is printed; None where a field is no such
     number."""
+    filled = [text for text in texts if text]
     try:
-        cells = [int(text) if text else None for text in texts]
+        cells = list(map(int, filled))
     except ValueError:
         return None
     # What Python reads besides, as `+1`, `1_0` or `007`, is printed in another way.
-    if any(text and str(cell) != text for text, cell in zip(texts, cells)):
+    if list(map(str, cells)) != filled:
         return None
-    filled = [cell for cell in cells if cell is not None]
     least, greatest = RANGES["int"]
-    return cells if not filled or least <= min(filled) and max(filled) <= greatest else None
+    if cells and not (least <= min(cells) and max(cells) <= greatest):
+        return None
+    if len(filled) == len(texts):
+        return cells
+    rest = iter(cells)
+    return [next(rest) if text else None for text in texts]

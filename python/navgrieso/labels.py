@@ -1,6 +1,7 @@
 """The nodes of a document as one line of text each."""
 from __future__ import annotations
 
+from collections.abc import Sequence
 from typing import Any
 
 from .expression_text import orders, text_of
@@ -12,13 +13,14 @@ DEPTH = 8
 MOST_LISTED = 6
 
 
-def label_of(document: Document, number: int) -> str:
-    """A node without its inputs, as `filter(col("a") > 1)`."""
+def label_of(document: Document, number: int, names: Sequence[str] = ()) -> str:
+    """A node without its inputs, as `filter(col("a") > 1)`. A scan has the name of its table,
+    where it has one, and else its number."""
     entry = document["nodes"][number]
     word, exprs = entry[0], document["exprs"]
 
     def one(number: int) -> str:
-        return text_of(_tree(exprs, number, DEPTH), DEPTH)
+        return text_of(tree(exprs, number, DEPTH), DEPTH)
 
     def named(made: list[list]) -> str:
         return _listed(
@@ -26,11 +28,8 @@ def label_of(document: Document, number: int) -> str:
         )
 
     if word == "scan":
-        return (
-            f"scan table {entry[1]}"
-            if entry[2] is None
-            else f"scan table {entry[1]} ({_listed(entry[2])})"
-        )
+        name = names[entry[1]] if entry[1] < len(names) else f"table {entry[1]}"
+        return f"scan {name}" if entry[2] is None else f"scan {name} ({_listed(entry[2])})"
     if word == "project":
         return f"project({_listed(entry[2])})"
     if word in ("select", "hstack"):
@@ -60,7 +59,7 @@ def label_of(document: Document, number: int) -> str:
     return f"{word} {entry[-1]}" if word in ("cache", "left_out") else word
 
 
-def _tree(exprs: list[list], number: int, depth: int) -> Expr:
+def tree(exprs: list[list], number: int, depth: int) -> Expr:
     """An expression of a document as a tree, as deep as it is printed."""
     if depth == 0 or not 0 <= number < len(exprs):
         return Expr("col", ("..",), "")
@@ -76,7 +75,7 @@ def _part(exprs: list[list], part: Any, depth: int) -> Any:
     if isinstance(part, list):
         return [_part(exprs, it, depth) for it in part]
     return (
-        _tree(exprs, part, depth) if isinstance(part, int) and not isinstance(part, bool) else part
+        tree(exprs, part, depth) if isinstance(part, int) and not isinstance(part, bool) else part
     )
 
 

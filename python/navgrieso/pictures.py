@@ -65,8 +65,11 @@ class Picture:
         return self.svg()
 
 
-def picture(document: Document, schemas: Sequence[Schema | None]) -> Picture:
-    """A picture of a document's plan, with the schemas of its nodes as far as they are known."""
+def picture(
+    document: Document, schemas: Sequence[Schema | None], names: Sequence[str] = ()
+) -> Picture:
+    """A picture of a document's plan, with the schemas of its nodes as far as they are known, and
+    the names of its tables where they have some."""
     nodes = document["nodes"]
     boxes: list[Box] = []
     seen: set[int] = set()
@@ -80,7 +83,7 @@ def picture(document: Document, schemas: Sequence[Schema | None]) -> Picture:
             boxes.append(Box(number, (f"{number}: there is no such node",), (), ()))
             continue
         below = tuple(inputs_of(nodes[number]))
-        lines = _wrapped(f"{number}: {label_of(document, number)}")
+        lines = _wrapped(f"{number}: {label_of(document, number, names)}")
         boxes.append(Box(number, lines, _noted(schemas[number]), below))
         waiting.extend(reversed(below))
     return Picture(boxes)

@@ -23,14 +23,17 @@ Entry = Callable[[list[int], Number], list]
 
 @dataclass(frozen=True, eq=False)
 class Table:
-    """A table of a document: its columns, each a list of a name, a kind and cells."""
+    """A table of a document: its columns, each a list of a name, a kind and cells, and the path of
+    its file, where it is of one."""
 
     columns: list[list]
+    path: str = ""
 
 
 @dataclass(frozen=True, eq=False)
 class Step:
-    """A node of a plan: what it reads, the entry that it makes, how the user wrote it, and where."""
+    """A node of a plan: what it reads, the entry that it makes, how the user wrote it, and
+    where."""
 
     inputs: tuple[Step, ...]
     entry: Entry
@@ -41,12 +44,13 @@ class Step:
 
 @dataclass
 class Built:
-    """A document, and for each of its nodes the step that it was made for, and its schema where it
-    is known."""
+    """A document, for each of its nodes the step that it was made for, and its schema where it is
+    known, and for its tables the names that are told, where they have some."""
 
     document: dict[str, Any]
     steps: list[Step] = field(default_factory=list)
     schemas: list[Schema | None] = field(default_factory=list)
+    names: list[str] = field(default_factory=list)
 
 
 def encoded(document: dict[str, Any]) -> bytes:
@@ -54,7 +58,8 @@ def encoded(document: dict[str, Any]) -> bytes:
     text = json.dumps(document, ensure_ascii=False, separators=(",", ":")).encode()
     if len(text) > MOST_BYTES:
         raise DocumentTooLong(
-            f"the document has {len(text):,} bytes: the program reads 64 MiB ({MOST_BYTES:,})"
+            f"the document has {len(text):,} bytes: the program reads 64 MiB ({MOST_BYTES:,}). A "
+            "document takes up to twice what the files of its tables have"
         )
     return text
 
@@ -71,6 +76,7 @@ class _Builder:
     def __init__(self) -> None:
         self._tables: list[list] = []
         self._table_numbers: dict[int, int] = {}
+        self._names: list[str] = []
         self._exprs: list[list] = []
         self._places: dict[str, int] = {}
 
@@ -102,6 +108,7 @@ class _Builder:
         readers = Counter(below for _, entry, _ in kept for below in inputs_of(entry))
         nodes: list[list] = []
         built = Built({"tables": self._tables, "exprs": self._exprs, "nodes": nodes})
+        built.names = self._names
         numbers: list[int] = []
         caches = 0
 
@@ -129,6 +136,7 @@ class _Builder:
             number = self._table_numbers.setdefault(id(step.table), len(self._tables))
             if number == len(self._tables):
                 self._tables.append(step.table.columns)
+                self._names.append(step.table.path or f"table {number}")
             return ["scan", number, None]
         scopes = [_Scope(Kinds(self._exprs, schema)) for schema in schemas]
         return step.entry(below, lambda expr, side=0: self._number(expr, scopes[side]))

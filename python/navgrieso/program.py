@@ -1,18 +1,24 @@
 """The program `plan_tool`: where it stands, and what it says to a document."""
 from __future__ import annotations
 
+import contextlib
 import os
 import re
 import shutil
 import subprocess
-from collections.abc import Iterator
+import threading
+from collections.abc import Callable, Iterator
 from dataclasses import dataclass
+from typing import IO
 
 from .errors import ProgramFailed, ProgramNotFound
 
 VARIABLE = "PLAN_TOOL"
 # What `rt run` and `rt ci` leave in a checkout.
 BUILT = os.path.join("crates", "plan_tool", "out", "plan_tool")
+
+# So many seconds pass between two calls while the program runs.
+PATIENCE = 0.2
 
 NAMES_NODE = re.compile(r"([A-Za-z]+(?: [A-Za-z]+)?) at ([0-9]+)(?:: (.*))?", re.DOTALL)
 
@@ -51,7 +57,7 @@ def find(given: str | None = None) -> str:
             return path
     raise ProgramNotFound(
         f"there is no program to ask: set {VARIABLE} to the path of plan_tool, or build it by "
-        "`rt run` in crates/plan_tool"
+        f"`rt run` in crates/plan_tool, which leaves it at {BUILT}"
     )
 
 
@@ -77,17 +83,62 @@ def settings(
     return [*words, "--serial"] if serial else words
 
 
-def ask(words: list[str], document: bytes, plan_tool: str | None = None) -> Reply:
-    """Runs the program with these words, and the document on its standard input.
+def ask(
+    words: list[str],
+    document: bytes,
+    plan_tool: str | None = None,
+    waiting: Callable[[], None] | None = None,
+) -> Reply:
+    """Runs the program with these words, and the document on its standard input. While it runs
+    `waiting` is called from time to time.
 
     Raises ProgramNotFound, and ProgramFailed where the program was ended by a signal.
     """
     path = find(plan_tool)
+    pipe = subprocess.PIPE
     try:
-        ran = subprocess.run([path, *words], input=document, capture_output=True, check=False)
+        with subprocess.Popen([path, *words], stdin=pipe, stdout=pipe, stderr=pipe) as started:
+            try:
+                output, told = _answer(started, document, waiting)
+            except BaseException:
+                # Also where the user has had enough.
+                started.kill()
+                raise
+            status = started.returncode
     except OSError as error:
         raise ProgramFailed(f"{path} can't be run: {error}") from error
-    line = ran.stderr.decode("utf-8", "replace").removesuffix("\n")
-    if ran.returncode < 0:
-        raise ProgramFailed(f"{path} was ended by signal {-ran.returncode}", line=line)
-    return Reply(ran.returncode, ran.stdout, line)
+    line = told.decode("utf-8", "replace").removesuffix("\n")
+    if status < 0:
+        raise ProgramFailed(f"{path} was ended by signal {-status}", line=line)
+    return Reply(status, output, line)
+
+
+def _answer(
+    started: subprocess.Popen[bytes], document: bytes, waiting: Callable[[], None] | None
+) -> tuple[bytes, bytes]:
+    """Gives the document to the program, and takes what it writes."""
+    if waiting is None:
+        return started.communicate(document)
+    # A thread gives the document, since `communicate` forgets what it had to send when it stops
+    # waiting.
+    stdin, started.stdin = started.stdin, None
+    giver = threading.Thread(target=_give, args=(stdin, document), daemon=True)
+    giver.start()
+    while True:
+        try:
+            said = started.communicate(timeout=PATIENCE)
+            giver.join()
+            return said
+        except subprocess.TimeoutExpired:
+            waiting()
+
+
+def _give(stdin: IO[bytes], document: bytes) -> None:
+    """Writes the document, as far as the program reads it."""
+    with contextlib.suppress(BrokenPipeError), stdin:
+        stdin.write(document)
+
+
+def version(plan_tool: str | None = None) -> str:
+    """What the program says of its name and version."""
+    return ask(["--version"], b"", plan_tool).output.decode("utf-8").strip()

@@ -11,6 +11,7 @@ from collections.abc import Callable
 from .plans import encoded
 from .printing import CUT, cut_to, shown, width_of
 from .program import ask
+from .query_hints import hint_of
 
 TOKEN = re.compile(
     r"[a-z_][a-z_0-9]*|[0-9]+"
@@ -92,6 +93,9 @@ def _hint(query: str, place: int, is_query: Callable[[str], bool]) -> str:
     """What else may be told of what stands at the place."""
     if query[place : place + 1] in ('"', "'") and TOKEN.match(query, place) is None:
         return "this quote isn't closed"
+    hint = hint_of(query, place)
+    if hint:
+        return hint
     word = WORD.match(query, place)
     if word is not None and goes_on(f'{query[:place]}"{word[0]}"', is_query):
         return f'as a name it stands in double quotes: "{word[0]}"'

@@ -30,6 +30,8 @@ LIKE_FIRST = {
     "first",
     "last",
 }
+VALUES = {"null", "bool", "int", "idx", "str"}
+AGGREGATES = {"min", "max", "sum", "first", "last", "n_unique", "count"}
 # No valid plan is deeper.
 MOST_DEPTH = 256
 
@@ -82,6 +84,22 @@ class Kinds:
         if word == "sum":
             return {"bool": "idx", "str": None}.get(first, first)
         return "idx" if word in ("count", "n_unique") else None
+
+
+def is_scalar(exprs: Sequence[list], number: int, depth: int = MOST_DEPTH) -> bool:
+    """Whether an expression gives one cell whatever its table has."""
+    if not depth or not 0 <= number < len(exprs):
+        return False
+    word, *parts = exprs[number]
+    if word in VALUES or word in AGGREGATES or word == "len":
+        return True
+    if word in ("col", "filter", "slice", "left_out"):
+        return False
+    if word == "gather":
+        return bool(parts[2])
+    if word in ("sort", "cast", "sort_by"):
+        parts = parts[:1]
+    return all(is_scalar(exprs, it, depth - 1) for it in parts)
 
 
 class Schemas:

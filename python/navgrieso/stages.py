@@ -1,4 +1,4 @@
-"""The stages of a query's text, and which of them made a node of its plan."""
+"""The stages of a query's text, and the tables that they name."""
 from __future__ import annotations
 
 import re
@@ -22,25 +22,6 @@ def stages_of(query: str) -> list[str]:
             stages[-1] += found[0]
             at = found.end()
     return [stage.strip() for stage in stages]
-
-
-def stage_of(query: str, node: int) -> int | None:
-    """The place of the stage that made a node of the query's plan, among the parts between bars: a
-    scan, one node for each stage, and a scan more before a join.
-
-    None for the sink and for what is past it.
-    """
-    first = 0
-    for place, stage in enumerate(stages_of(query)):
-        first += 2 if stage.split(maxsplit=1)[:1] == ["join"] else 1
-        if node < first:
-            return place
-    return None
-
-
-def joined_table(stage: str) -> str | None:
-    """The table that a stage joins, if it is a join."""
-    return _name(JOIN.match(stage))
 
 
 def table_named(stage: str) -> str | None:

@@ -2,18 +2,15 @@
 from __future__ import annotations
 
 import os
-from collections import Counter
-from collections.abc import Mapping, Sequence
+import warnings
+from collections.abc import Collection, Mapping
 from typing import Any
 
-from .csv_text import rows_of
-from .errors import CsvFault, DocumentTooLong
+from .csv_files import CsvFile, GivenSchema, Reading, refuse_unknown
+from .errors import CsvFault, SurprisingKind
 from .frames import LazyFrame, scan
-from .kinds import Kind, guessed_cells, kind_of_cells, read_cells
-from .plans import MOST_BYTES, Table
-
-# Kinds by the names of columns; what isn't named is guessed.
-GivenSchema = Mapping[str, Kind | str | type]
+from .kinds import Kind, kind_of_cells
+from .plans import Table
 
 
 def table(data: Any, schema: GivenSchema | None = None) -> LazyFrame:
@@ -27,8 +24,8 @@ def table(data: Any, schema: GivenSchema | None = None) -> LazyFrame:
     """
     if schema is None:
         schema = getattr(data, "schema", {}) if isinstance(data, Mapping) else {}
-    columns = {name: list(cells) for name, cells in _columns_of(data).items()}
-    _refuse_unknown(schema, columns)
+    columns = {name: _plain(cells) for name, cells in _columns_of(data).items()}
+    refuse_unknown(schema, columns)
     heights = {len(cells) for cells in columns.values()}
     if len(heights) > 1:
         lengths = ", ".join(f"{name} has {len(cells)}" for name, cells in columns.items())
@@ -38,8 +35,9 @@ def table(data: Any, schema: GivenSchema | None = None) -> LazyFrame:
         try:
             kind = Kind.of(schema[name]) if name in schema else kind_of_cells(cells)
         except ValueError as error:
-            raise ValueError(f"column {name!r}: {error}") from None
-        bad = next((place for place, cell in enumerate(cells) if not kind.holds(cell)), None)
+            hint = _floats_hint(cells) if hasattr(data, "isna") else ""
+            raise ValueError(f"column {name!r}: {error}{hint}") from None
+        bad = kind.first_other(cells)
         if bad is not None:
             raise ValueError(
                 f"column {name!r}, row {bad}: {cells[bad]!r} is no value of kind {kind.value}"
@@ -48,81 +46,38 @@ def table(data: Any, schema: GivenSchema | None = None) -> LazyFrame:
     return scan(Table(made), f"table({', '.join(map(repr, columns))})")
 
 
-def read_csv(path: str | os.PathLike[str], schema: GivenSchema | None = None) -> LazyFrame:
-    """A frame of a CSV file (UTF-8, commas, a header, quotes as in RFC 4180).
+def read_csv(
+    path: str | os.PathLike[str],
+    schema: GivenSchema | None = None,
+    *,
+    separator: str = ",",
+    null_values: str | Collection[str] = (),
+    strict: bool = False,
+) -> LazyFrame:
+    """A frame of a CSV file (UTF-8, a header, quotes as in RFC 4180), also of one that gzip has
+    packed (`.gz`).
 
-    Kinds are guessed from all rows where the schema doesn't name them: whole numbers (without
-    needless zeros, so that `007` stays a text) and truth values (`true`, `false`), else texts. Row
-    counts (`idx`) come by the schema alone. An empty field is null; between quotes it is an empty
-    text in a column of texts. Empty lines are left out.
+    Kinds are guessed from all rows where the schema doesn't name them: whole numbers (as they are
+    printed, so that `007` and `+3` stay texts) and truth values (`true`, `false`), else texts. Row
+    counts (`idx`) come by the schema alone. An empty field is null, and so is one of `null_values`;
+    between quotes it is an empty text in a column of texts. Empty lines are left out.
+
+    A column that is read as text though most of its fields look like numbers, truth values or
+    dates is told by a warning (SurprisingKind), and refused where `strict` says so (CsvFault).
 
     Raises CsvFault, with the line, for rows of another length than the header's, quotes in the
     wrong place, and fields that aren't of their kind; DocumentTooLong for a file of more than 64
     MiB, and OSError.
     """
     name = os.fspath(path)
-    size = os.path.getsize(name)
-    if size > MOST_BYTES:
-        raise DocumentTooLong(
-            f"{name} has {size:,} bytes: a document, which holds the tables of a query, has at "
-            f"most 64 MiB ({MOST_BYTES:,})"
-        )
-    return scan(csv_table(name, schema), f"read_csv({name!r})")
-
-
-def csv_table(path: str, schema: GivenSchema | None = None) -> Table:
-    """The table of a CSV file, as `read_csv` reads it."""
-    with open(path, "rb") as file:
-        data = file.read()
-    try:
-        return _table_of(data, schema or {})
-    except UnicodeDecodeError as error:
-        line = data.count(b"\n", 0, error.start) + 1
-        raise CsvFault(f"{path}, line {line}: this is no UTF-8 text") from None
-    except CsvFault as error:
-        raise CsvFault(f"{path}, {error}") from None
-    except ValueError as error:
-        raise CsvFault(f"{path}: {error}") from None
-
-
-def _table_of(data: bytes, schema: GivenSchema) -> Table:
-    rows = rows_of(data.decode("utf-8-sig"))
-    line, header = next(rows, (1, None))
-    if header is None:
-        raise CsvFault("line 1: a header is wanted, and the file is empty")
-    names = [name or "" for name in header]
-    twice = [name for name, count in Counter(names).items() if count > 1]
-    if twice:
-        raise CsvFault(f"line {line}: two columns are named {twice[0]!r}")
-    _refuse_unknown(schema, names)
-    lines, fields = [], []
-    for line, row in rows:
-        if len(row) != len(names):
-            raise CsvFault(f"line {line}: {len(row)} fields stand under a header of {len(names)}")
-        lines.append(line)
-        fields.append(row)
-    columns = list(zip(*fields)) if fields else [()] * len(names)
-    return Table(
-        [_column(name, texts, schema.get(name), lines) for name, texts in zip(names, columns)]
-    )
-
-
-def _column(
-    name: str, texts: Sequence[str | None], given: Kind | str | type | None, lines: list[int]
-) -> list:
-    if given is None:
-        kind, cells = guessed_cells(texts)
-        return [name, kind.value, cells]
-    kind = Kind.of(given)
-    try:
-        return [name, kind.value, read_cells(kind, texts)]
-    except ValueError:
-        for line, it in zip(lines, texts):
-            try:
-                kind.read(it)
-            except ValueError as error:
-                raise CsvFault(f"line {line}, column {name}: {error}") from None
-        raise
+    values = (null_values,) if isinstance(null_values, str) else tuple(null_values)
+    read = CsvFile(name, Reading(schema or {}, separator, values)).table()
+    told = [f"{name}: {it}" for it in read.told()]
+    if told and strict:
+        raise CsvFault("\n".join(told))
+    for it in told:
+        warnings.warn(it, SurprisingKind, stacklevel=2)
+    return scan(read.table, f"read_csv({name!r})")
 
 
 def _columns_of(data: Any) -> Mapping[str, Any]:
@@ -139,6 +94,15 @@ def _columns_of(data: Any) -> Mapping[str, Any]:
     )
 
 
+def _plain(cells: Any) -> list:
+    """Cells as Python's values, of which numpy has its own."""
+    if hasattr(cells, "tolist"):
+        return cells.tolist()  # an array of numpy
+    found = list(cells)
+    is_plain = not any(hasattr(cell, "dtype") for cell in found)
+    return found if is_plain else [it.item() if hasattr(it, "dtype") else it for it in found]
+
+
 def _pandas_cells(column: Any) -> list:
     """The cells of a column of pandas, which tells missing ones by a call, and whose numbers are
     no Python's."""
@@ -148,12 +112,15 @@ def _pandas_cells(column: Any) -> list:
     ]
 
 
-def _refuse_unknown(schema: GivenSchema, names: Any) -> None:
-    known = set(names)
-    unknown = [name for name in schema if name not in known]
-    if unknown:
-        told, there = ", ".join(map(repr, unknown)), ", ".join(map(repr, names))
-        raise ValueError(f"the schema names {told}; the columns are {there}")
+def _floats_hint(cells: list) -> str:
+    """What is told where pandas has made decimals of whole numbers, since some are missing."""
+    filled = [cell for cell in cells if cell is not None]
+    if not all(isinstance(cell, float) and cell.is_integer() for cell in filled):
+        return ""
+    return (
+        ". pandas makes decimals of whole numbers where some are missing: "
+        "table(frame.convert_dtypes())"
+    )
 
 
 def _text(name: object) -> str:

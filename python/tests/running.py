@@ -1,6 +1,7 @@
 """Runs the command `nav`, by pipes and on a terminal of its own."""
 import os
 import pty
+import re
 import select
 import struct
 import subprocess
@@ -40,7 +41,7 @@ class Command(unittest.TestCase):
         return ran.returncode, ran.stdout.decode(), ran.stderr.decode()
 
     def terminal(self, *words: str, columns: int = 80) -> str:
-        """What `nav` writes on a terminal."""
+        """What `nav` writes on a terminal, without the bar that a slow machine sees."""
         ours, its = pty.openpty()
         ioctl(its, termios.TIOCSWINSZ, struct.pack("HHHH", 24, columns, 0, 0))
         environment = {
@@ -63,4 +64,4 @@ class Command(unittest.TestCase):
             seen += more
         self.assertEqual(started.wait(120), 0, seen)
         os.close(ours)
-        return seen.decode().replace("\r\n", "\n")
+        return re.sub(r"\r[^\n]*\r", "", seen.decode().replace("\r\n", "\n"))

@@ -1,7 +1,10 @@
 """CSV files: quotes, line ends, empty fields, names, kinds, and what is refused with its line."""
+import gzip
 import os
+import re
 import tempfile
 import unittest
+import warnings
 from unittest import mock
 
 import navgrieso as nav
@@ -90,8 +93,72 @@ class Reading(unittest.TestCase):
             '""': nav.String,
         }
         for text, kind in kinds.items():
-            with self.subTest(text[:40]):
+            with self.subTest(text[:40]), warnings.catch_warnings():
+                warnings.simplefilter("ignore", nav.SurprisingKind)
                 self.assertEqual(self.frame(f"a\n{text}\n").collect().schema, {"a": kind})
+
+    def test_what_may_surprise_is_told(self) -> None:
+        told = {
+            "9.5\n10.25\n100": "line 2 has 9.5, and there are no decimals",
+            "1\n2\nNA": "line 4 has NA, and null is an empty field",
+            "1\n+3\n2": "line 3 has +3, and a whole number has no plus",
+            "1e3\n2": "line 2 has 1e3, and a whole number has digits alone",
+            "1\n007": "line 3 has 007, and a whole number has no zero in front",
+            "1\n9223372036854775808": "line 3 has 9223372036854775808, and whole numbers end at",
+            "-9223372036854775809\n1": "line 2 has -9223372036854775809, and whole numbers begin",
+            '"1,200"\n5': "line 2 has 1,200, and digits have nothing between them",
+            "12\n12a\n13": "line 3 has 12a, and that is no whole number",
+            " 1\n2": "line 2 has ' 1', and a number has no blanks beside it",
+            "31/12/2023\n01/02/2024": "line 2 has 31/12/2023, and there are no dates",
+            "True\nfalse": "line 2 has True, and truth values are true and false",
+            "true\nno\n\nyes": "line 3 has no, and truth values are true and false",
+        }
+        for text, why in told.items():
+            with self.subTest(text), self.assertWarnsRegex(
+                nav.SurprisingKind, r"file\.csv: a is read as text: " + re.escape(why)
+            ):
+                self.frame(f"a\n{text}\n")
+            with self.subTest(text), self.assertRaisesRegex(nav.CsvFault, re.escape(why)):
+                nav.read_csv(self.path, strict=True)
+            self.assertEqual(nav.read_csv(self.path, {"a": "str"}, strict=True).columns, ["a"])
+
+    def test_plain_texts_surprise_nobody(self) -> None:
+        with warnings.catch_warnings():
+            warnings.simplefilter("error")
+            for text in ("Ann\n7\nBo", "2023-12-31\n2024-01-01", "x\n\ny", "1\n2", "NW\nNA\nSE"):
+                with self.subTest(text):
+                    self.frame(f"a\n{text}\n")
+
+    def test_separators(self) -> None:
+        with self.assertWarnsRegex(nav.SurprisingKind, "its name has ';' in it: --sep ';'"):
+            self.assertEqual(self.frame("a;b\n1;2\n").columns, ["a;b"])
+        for sign in (";", "\t", "|"):
+            read = nav.read_csv(self.path, separator=";")
+            self.assertEqual(read.collect().to_dict(), {"a": [1], "b": [2]})
+            with open(self.path, "w", encoding="utf-8") as file:
+                file.write(f'a{sign}b\n"1{sign}"{sign}2\n')
+            read = nav.read_csv(self.path, separator=sign)
+            self.assertEqual(read.collect().to_dict(), {"a": [f"1{sign}"], "b": [2]})
+            with open(self.path, "w", encoding="utf-8") as file:
+                file.write("a;b\n1;2\n")
+        for sign in ("", "ab", '"', "\n"):
+            with self.assertRaises(ValueError):
+                nav.read_csv(self.path, separator=sign)
+
+    def test_fields_that_are_null(self) -> None:
+        self.frame("n,t\n1,NA\nNA,x\n")
+        read = nav.read_csv(self.path, null_values="NA").collect()
+        self.assertEqual(read.to_dict(), {"n": [1, None], "t": [None, "x"]})
+
+    def test_a_packed_file(self) -> None:
+        packed = f"{self.path}.gz"
+        with gzip.open(packed, "wb") as file:
+            file.write(b"a\n1\n")
+        self.assertEqual(nav.read_csv(packed).collect()["a"], [1])
+        with open(packed, "wb") as file:
+            file.write(b"a\n1\n")
+        with self.assertRaisesRegex(nav.CsvFault, "no file that gzip has packed"):
+            nav.read_csv(packed)
 
     def test_kinds_that_are_given(self) -> None:
         self.assertEqual(

@@ -5,9 +5,10 @@ import stat
 import subprocess
 import unittest
 
+from navgrieso.completions import COMMANDS, FLAGS
 from navgrieso.program import find
 
-from .running import EXAMPLES, NAV, ORDERS, TOP, Command
+from .running import CUSTOMERS, EXAMPLES, NAV, ORDERS, TOP, Command
 
 
 class Documents(Command):
@@ -86,6 +87,9 @@ class Documents(Command):
             ["query", "--help"],
             ["check", "--help"],
             ["plan", "--help"],
+            ["explain", "--help"],
+            ["kinds", "--help"],
+            ["completions", "--help"],
             ["from t", "--help"],
         ):
             status, output, told = self.nav(*words)
@@ -93,6 +97,78 @@ class Documents(Command):
             self.assertIn("usage: nav", output)
         self.assertEqual(self.nav()[0], 2)
         self.assertEqual(self.nav("from t")[0], 2)
+
+    def test_queries(self) -> None:
+        query = "from orders | join left customers on id | sort name"
+        status, output, told = self.nav("check", query, ORDERS, CUSTOMERS)
+        self.assertEqual((status, told), (0, ""))
+        self.assertIn(f"0: scan orders ({ORDERS})\n    id int, amount int\n", output)
+        self.assertIn('2: left join(col("id") = col("id")) of 0, 1\n', output)
+        self.assertTrue(output.endswith("The plan is valid.\n"))
+        status, output, told = self.nav("check", "from orders | sort amout", ORDERS)
+        self.assertEqual((status, output), (4, ""))
+        self.assertIn("in the stage sort amout\n  did you mean amount?\n", told)
+        self.assertEqual(self.nav("check", "from orders | filter", ORDERS)[0], 3)
+        status, output, _ = self.nav("plan", query, ORDERS, CUSTOMERS, "--dot")
+        self.assertEqual(status, 0)
+        self.assertIn("scan customers", output)
+        status, output, _ = self.nav("explain", query, ORDERS, CUSTOMERS)
+        self.assertEqual(status, 0)
+        self.assertEqual(len(output.splitlines()), 5)
+        self.assertEqual(output, self.nav("plan", query, ORDERS, CUSTOMERS, "--physical")[1])
+        self.assertIn("no files belong to it", self.nav("plan", ORDERS, ORDERS)[2])
+
+    def test_explain(self) -> None:
+        with open(os.path.join(EXAMPLES, "totals.plan"), encoding="utf-8") as file:
+            self.assertEqual(self.nav("explain", self.example("totals")), (0, file.read(), ""))
+
+    def test_kinds(self) -> None:
+        path = self.file("p.csv", "price,n,flag\n9.5,,true\n10,7,false\n")
+        status, output, told = self.nav("kinds", path, ORDERS)
+        self.assertEqual((status, told), (0, ""))
+        self.assertIn(f"p ({path}), 2 rows\n", output)
+        for line in (
+            r"price +str +0 +9\.5 +line 2 has 9\.5, and there are no decimals",
+            r"n +int +1 +7",
+            r"flag +bool +0 +true",
+            r"amount +int +0 +30",
+        ):
+            self.assertRegex(output, f"(?m)^{line}$")
+        self.assertEqual(self.nav("kinds", path, "--strict")[0], 1)
+
+    def test_versions(self) -> None:
+        self.assertEqual(self.nav("--version"), (0, "nav 0.1.0\nplan_tool 0.1.0\n", ""))
+
+    def test_completions(self) -> None:
+        for shell in ("bash", "zsh"):
+            status, output, _ = self.nav("completions", shell)
+            self.assertEqual(status, 0)
+            for word in COMMANDS:
+                self.assertIn(word, output)
+            if shutil.which(shell):
+                subprocess.run([shell, "-n"], input=output.encode(), check=True)
+        words = self.nav("query", "--help")[1] + self.nav("plan", "--help")[1]
+        for flag in FLAGS:
+            self.assertIn(flag, words + "--version")
+
+    def test_a_number_that_names_nothing(self) -> None:
+        for nodes, why in (
+            ('["filter",0,7]', "it names expression 7, and there are 1, from 0 on"),
+            ('["filter",9,0]', "it reads node 9, and there are 3, from 0 on"),
+            ('["filter",1,0]', "it reads itself"),
+            ('["map",0,5]', "it names function 5, and there are 2, from 0 on"),
+            ('["sink",0]', "a sink stands below the root"),
+            ('["union",[],null]', "it has no input"),
+        ):
+            given = (
+                '{"tables":[[["b","bool",[true]]]],"exprs":[["col","b"]],'
+                f'"nodes":[["scan",0,null],{nodes},["sink",1]],"root":2}}'
+            )
+            with self.subTest(nodes):
+                status, _, told = self.nav("check", "-", given=given.encode())
+                self.assertEqual(status, 4)
+                self.assertIn("InvalidPlan Shape at 1", told)
+                self.assertIn(f"  {why}", told)
 
     def test_a_program_that_is_named(self) -> None:
         del self.environment["PLAN_TOOL"]

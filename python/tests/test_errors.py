@@ -63,6 +63,32 @@ class Refusals(unittest.TestCase):
             read.select("t").filter(col("u") == "x").collect()
         self.assertEqual(told.exception.entry, 'filter(col("u") == "x")')
 
+    def test_a_slip_over_a_large_table_is_told_before_it_is_written(self) -> None:
+        large = nav.table({"t": ["x" * 1000] * 100_001}).filter(col("u") == "x")
+        with self.assertRaises(nav.ColumnNotFound):
+            large.collect()
+
+    def test_kinds_that_do_not_agree(self) -> None:
+        counted = frame().group_by("a").agg(n=nav.len())
+        with self.assertRaises(nav.InvalidPlan) as told:
+            counted.filter(col("n") > col("a")).collect()
+        text = str(told.exception)
+        self.assertIn('  col("n") is idx and col("a") is int: both sides of > have one kind', text)
+        self.assertIn(".cast(nav.Int64)", text)
+
+    def test_a_name_that_is_near(self) -> None:
+        read = nav.table({"amount": [1], "Name": ["x"]})
+        with self.assertRaisesRegex(nav.ColumnNotFound, r"did you mean amount\?"):
+            read.select("amout").collect()
+        with self.assertRaisesRegex(nav.ColumnNotFound, r"did you mean Name\?"):
+            read.select("name").collect()
+        with self.assertRaises(nav.ColumnNotFound) as told:
+            read.join(frame(), left_on="amount", right_on="x").collect()
+        self.assertIn(
+            "the columns on the left are amount, Name\n  the columns on the right are a, t",
+            str(told.exception),
+        )
+
     def test_a_fault_of_the_data(self) -> None:
         with self.assertRaises(nav.DataFault) as told:
             frame().select(n=col("t").cast(nav.Int64)).collect()

@@ -64,6 +64,16 @@ class OtherTables(unittest.TestCase):
         with self.assertRaises(TypeError):
             nav.table([1, 2])
 
+    def test_floats_of_pandas(self) -> None:
+        class Floats(Pandas):
+            columns = ["a"]
+
+            def __getitem__(self, name: str) -> Column:
+                return Column([1.0, None])
+
+        with self.assertRaisesRegex(ValueError, "column 'a': .*convert_dtypes"):
+            nav.table(Floats())
+
     def test_those_that_are_installed(self) -> None:
         answer = nav.table(CELLS).with_row_index().collect()
         for library, made in (

@@ -8,6 +8,9 @@ import tempfile
 import unittest
 import zipfile
 
+import navgrieso as nav
+from navgrieso.program import version
+
 TOP = os.path.join(os.path.dirname(os.path.abspath(__file__)), "..")
 
 
@@ -34,6 +37,7 @@ class Package(unittest.TestCase):
             if it.endswith(".py")
         }
         self.assertEqual({path for path in files if path.endswith(".py")}, modules)
+        self.assertIn("navgrieso/py.typed", files)
         info = "navgrieso-0.1.0.dist-info"
         self.assertEqual(
             files[f"{info}/entry_points.txt"], b"[console_scripts]\nnav = navgrieso.command:main\n"
@@ -51,6 +55,18 @@ class Package(unittest.TestCase):
                     .rstrip("=")
                 )
                 self.assertEqual((digest, int(size)), (f"sha256={wanted}", len(files[path])))
+
+    def test_there_is_one_version(self) -> None:
+        self.assertIn(f'version = "{nav.__version__}"', self.text("python", "pyproject.toml"))
+        self.assertIn(f"\n## {nav.__version__}", self.text("CHANGELOG.md"))
+        self.assertEqual(version(), f"plan_tool {nav.__version__}")
+
+    def test_the_license(self) -> None:
+        self.assertTrue(self.text("LICENSE").startswith("MIT License\n"))
+
+    def text(self, *path: str) -> str:
+        with open(os.path.join(TOP, "..", *path), encoding="utf-8") as file:
+            return file.read()
 
     def test_an_editable_wheel_names_this_folder(self) -> None:
         files = self.files(self.backend.build_editable(self.room))

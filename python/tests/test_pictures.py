@@ -87,6 +87,8 @@ class Pictures(unittest.TestCase):
         dot = totals().show().dot()
         self.assertIn('  n0 [label = "0: scan table 0\\ncustomer int, amount int"]\n', dot)
         self.assertEqual(len(re.findall(r"^  n\d+ -> n\d+$", dot, re.MULTILINE)), 5)
+        read = nav.read_csv(os.path.join(EXAMPLES, "orders.csv")).show().dot()
+        self.assertRegex(read, r"0: scan [^\n]*orders\.csv")
         odd = nav.table({'a "b" \\ \n\x00<&': [1]}).show()
         self.assertIn('a \\"b\\" \\\\ \\\\n\\\\x00<&', odd.dot())
 

@@ -7,7 +7,10 @@ import unittest
 import navgrieso as nav
 from navgrieso.plans import encoded
 from navgrieso.program import ask
+from navgrieso.query_hints import hint_of
 from navgrieso.query_place import no_query, place_of, tokens_of
+from navgrieso.query_plan import NoReading as Unread
+from navgrieso.query_plan import plan_of
 
 from .pipeline import NoReading, Reader
 from .random_texts import TABLES, Texts
@@ -66,7 +69,12 @@ class Random(unittest.TestCase):
                     plan = Reader(query, frames).query().document()
                 except NoReading:
                     self.assertEqual((reply.status, reply.line), (3, "BadQuery"))
+                    with self.assertRaises(Unread):
+                        plan_of(query, list(TABLES), tables)
                     continue
+                # The client's own reading has the program's nodes, with their numbers.
+                own = plan_of(query, list(TABLES), tables)
+                self.assertEqual(ask(["run"], encoded(own.document)), reply)
                 wanted = ask(["run"], encoded(plan))
                 self.assertEqual((reply.status, reply.output), (wanted.status, wanted.output))
                 answered += reply.status == 0
@@ -132,6 +140,65 @@ class Places(unittest.TestCase):
         long = no_query("from t | sort " + "a, " * 100 + "b c, d" + ", e" * 100, None)
         self.assertTrue(all(len(line) < 82 for line in long.split("\n")))
         self.assertIn("b c, d", long)
+
+
+class Hints(unittest.TestCase):
+    """What is told at the `!`, where a text can't be read on; it is no part of the text."""
+
+    def test_hints(self) -> None:
+        for marked, hint in (
+            ("from t | select b = a !/ 2", "// divides whole numbers"),
+            ("from t | filter a > 4!.5", "there are no decimals"),
+            ("from t | group k = k agg m = mean!(a)", "mean = sum(x) // sum(one)"),
+            ("from t | group k = k agg m = AVG!(a)", "mean = sum(x) // sum(one)"),
+            ("from t | select m = median!(a)", "there is no median"),
+            ("from t | select m = lower!(a)", "there is no function lower: there are min, max"),
+            ("from t | sort a !asc", "a sort goes up where no desc is said"),
+            ("from t | filter not !x", "not has parentheses: not(x)"),
+            ("from t | filter x !is null", "is_null(x) asks that"),
+            ("from t | filter x !is not null", "is_not_null(x) asks that"),
+            ("from t | !head 3", "there is no head: slice 0 3"),
+            ("from t | !limit 10", "there is no limit: slice 0 10"),
+            ("from t | !tail 2", "there is no tail: slice -2 2"),
+            ("from t | !where a > 1", "there is no where: filter EXPR"),
+            ("from t | !order by a", "sort KEY"),
+            ("!SELECT a FROM t", "a query begins with its table: from TABLE"),
+            ("!select a = a", "a query begins with its table: from TABLE"),
+            ("!FROM t", "words are written small: from TABLE"),
+            ("from t | filter a > 1 !AND b > 1", "words are written small"),
+            ("from t | select a!, b", "each item has a name: NAME = EXPR"),
+            ("from t | select a !as b", "a name stands in front: NAME = EXPR"),
+            ("from t | group !by a", "group is followed by NAME = KEY"),
+            ("from t | sort !by a", "sort is followed by its keys"),
+            ("from t | join !outer u on a", "that join is named full"),
+            ("from t | join !u on a", "a join says how: join inner TABLE on NAME"),
+            ("from t | filter a <!> 1", "!= says that two values differ"),
+            ("from t | filter a !&& b", "and, or and not(x)"),
+            ("from t | filter a !in (1, 2)", "a == 1 or a == 2"),
+            ("from t | filter a !between 1 and 2", "a >= 1 and a <= 9"),
+            ("from t | group k = k agg n = count(!)", "len() counts rows"),
+            ("from t | group k = k agg n = count(!*)", "len() counts rows"),
+            ("from t | filter a == -!b", "0 - x says the opposite"),
+            ("from t!;", "a query has no sign at its end"),
+            ("from t | filter (a !", ""),
+            ("from t | sort !from", ""),
+        ):
+            place = marked.index("!")
+            with self.subTest(marked):
+                told = hint_of(marked[:place] + marked[place + 1 :], place)
+                self.assertIn(hint, told)
+                self.assertEqual(bool(hint), bool(told), told)
+
+    def test_a_single_sign(self) -> None:
+        query = "from t | filter a = 1"
+        self.assertIn("== compares", hint_of(query, query.index("=")))
+
+    def test_the_hint_is_a_query(self) -> None:
+        query = (
+            "from t | with one = 1 | group a = a agg n = sum(one), mean = sum(b) // sum(one) "
+            "| filter n > 1"
+        )
+        self.assertTrue(is_query(query))
 
 
 class Documents(unittest.TestCase):
